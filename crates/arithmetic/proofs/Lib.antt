@@ -1,0 +1,9 @@
+pub mod Facts
+pub mod Units
+pub mod Sums
+pub mod Order
+pub mod Halves
+pub mod Whole
+pub mod OneOver
+pub mod Meaning
+pub mod Figures

@@ -1,0 +1,58 @@
+-- The laws of a counted loop: `range-none` where it begins, `range-more` for one more turn, `range-end` where it ends. Assumes nothing.
+use Prim.Native.Nat.{ℕ, zero, suc, _+_, _-_, _≤_, _<_}
+use mathlib.Core.Path.{_≡_, refl, ap, subst, _∙_}
+use mathlib.Core.Logic.{⊎-elim}
+use native.Mathlib.Nat.{eq-or-lt-of-le, le-of-suc-le-suc, add-suc, le-antisymm}
+use native.Mathlib.Omega.{arith}
+use Rattle.lent.specs.Range.{span, range}
+
+pub range-none : {S : Type 0} (f : ℕ → S → S) (lo hi : ℕ) (s : S) → hi ≤ lo → range f lo hi s ≡ s
+unfolding range
+range-none f lo hi s h =
+    let e : hi - lo ≡ 0 = omega arith in
+    ap (λ (k : ℕ). span f lo k s) e
+
+pub range-more : {S : Type 0} (f : ℕ → S → S) (lo i : ℕ) (s : S) → lo ≤ i → range f lo (i + 1) s ≡ f i (range f lo i s)
+unfolding range
+range-more f lo i s h =
+    let e : i + 1 - lo ≡ suc (i - lo) = omega arith in
+    let g : lo + (i - lo) ≡ i = omega arith in
+    rw e (ap (λ (j : ℕ). f j (span f lo (i - lo) s)) g)
+
+-- what each turn keeps holds at the end
+span-keeps : {S : Type 0} (P : S → Type 0) (f : ℕ → S → S) (lo k : ℕ) (s : S) → P s
+    → ((i : ℕ) (t : S) → lo ≤ i → i < lo + k → P t → P (f i t)) → P (span f lo k s)
+unfolding span
+span-keeps P f lo zero s h turn = h
+span-keeps P f lo (suc k) s h turn =
+    turn (lo + k) (span f lo k s) (omega arith) (omega arith) (span-keeps P f lo k s h (λ i t a b p. turn i t a (omega arith) p))
+
+pub range-keeps : {S : Type 0} (P : S → Type 0) (f : ℕ → S → S) (lo hi : ℕ) (s : S) → P s
+    → ((i : ℕ) (t : S) → lo ≤ i → i < hi → P t → P (f i t)) → P (range f lo hi s)
+unfolding range
+range-keeps P f lo hi s h turn = span-keeps P f lo (hi - lo) s h (λ i t a b p. turn i t a (omega arith) p)
+
+-- what turn j brings about, and each turn keeps, holds at the end
+span-hits : {S : Type 0} (P : S → Type 0) (f : ℕ → S → S) (lo k : ℕ) (s : S) (j : ℕ) → lo ≤ j → j < lo + k
+    → ((t : S) → P (f j t)) → ((i : ℕ) (t : S) → lo ≤ i → i < lo + k → P t → P (f i t)) → P (span f lo k s)
+unfolding span
+span-hits P f lo zero s j a b hit keep = absurd (no a b)
+  where
+    no : lo ≤ j → j < lo + 0 → ⊥
+    no p q = omega arith
+span-hits P f lo (suc k) s j a b hit keep =
+    ⊎-elim
+    (λ e. subst (λ (i : ℕ). P (f i (span f lo k s))) e (hit (span f lo k s)))
+    (λ l.
+    keep (lo + k) (span f lo k s) (omega arith) (omega arith)
+    (span-hits P f lo k s j a l hit (λ i t x y p. keep i t x (omega arith) p)))
+    (eq-or-lt-of-le (le-of-suc-le-suc (subst (λ (m : ℕ). j < m) (add-suc lo k) b)))
+
+pub range-hits : {S : Type 0} (P : S → Type 0) (f : ℕ → S → S) (lo hi : ℕ) (s : S) (j : ℕ) → lo ≤ j → j < hi
+    → ((t : S) → P (f j t)) → ((i : ℕ) (t : S) → lo ≤ i → i < hi → P t → P (f i t)) → P (range f lo hi s)
+unfolding range
+range-hits P f lo hi s j a b hit keep = span-hits P f lo (hi - lo) s j a (omega arith) hit (λ i t x y p. keep i t x (omega arith) p)
+
+-- the loop has run where its counter has reached the end
+pub range-end : {S : Type 0} (f : ℕ → S → S) (lo i hi : ℕ) (s t : S) → t ≡ range f lo i s → i ≤ hi → hi ≤ i → t ≡ range f lo hi s
+range-end f lo i hi s t e h g = e ∙ ap (λ (k : ℕ). range f lo k s) (le-antisymm h g)

@@ -1,0 +1,4 @@
+pub mod Grid
+pub mod Range
+pub mod Count
+pub mod Lent
