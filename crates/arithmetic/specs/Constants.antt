@@ -16,3 +16,7 @@ half = ofBits binary64 0x3fe0_0000_0000_0000
 -- 2
 abbrev pub two : Float
 two = ofBits binary64 0x4000_0000_0000_0000
+
+-- "EPSILON is 2^-52"
+abbrev pub epsilon : Float
+epsilon = ofBits binary64 0x3cb0_0000_0000_0000

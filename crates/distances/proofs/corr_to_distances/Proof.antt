@@ -1,0 +1,72 @@
+-- `distances::corr_to_distances` meets its contract. Assumes nothing.
+use mathlib.Core.Path.{sym, _∙_}
+use native.Mathlib.Omega.{arith}
+use lib.ListN.{length}
+use Rattle.arithmetic.specs.Constants.{pz}
+use Rattle.lent.specs.Grid.{grid}
+use Rattle.lent.proofs.Sizes.{squared-done, laid-done, laid-refused}
+use Rattle.distances.specs.Distances.{distanceOutcome, distanceAnswer, distances, distanceCell}
+use Rattle.distances.proofs.Laws.{distances-grid}
+use borrow.Author.Needs.{needs}
+use Rattle.distances.proofs.corr_to_distances.Statement.{statement}
+use Rattle.distances.proofs.corr_to_distances.Tie as tie
+
+squared-requires : tie.Need-squared-requires
+squared-requires c κs = search needs
+
+clear-requires : tie.Need-clear-requires
+clear-requires c κs = search needs
+
+enum-told : tie.Need-enum-told
+enum-told c = search needs
+
+enum-told-2 : tie.Need-enum-told-2
+enum-told-2 c = search needs
+
+answered-requires : tie.Need-answered-requires
+answered-requires c κs = search needs
+
+same-length : tie.Need-same-length
+same-length c = search needs
+
+returns : tie.Need-returns
+unfolding distanceAnswer distances distanceOutcome
+returns c =
+    let e = sym (c .before .before .before .before .before .before .before .squared .ensures) ∙ c .before .enum-told2 .given .1 in
+    (rw (c .answered .ensures, c .before .before .before .before .before .before .before .squared .ensures), c .before .before .before .before .before .clear .ensures ∙ laid-refused _ _ _ _ _ e)
+
+fill-distances-requires : tie.Need-fill-distances-requires
+fill-distances-requires c κs =
+    let q = squared-done _ _ _ _ (sym (c .before .before .before .before .before .before .before .squared .ensures) ∙ c .before .enum-told .given .1) in
+    omega (arith, q .cells, q .roomy)
+
+answered-requires-2 : tie.Need-answered-requires-2
+answered-requires-2 c κs = search needs
+
+same-length-2 : tie.Need-same-length-2
+same-length-2 c = search needs
+
+returns-2 : tie.Need-returns-2
+unfolding distanceAnswer distances distanceOutcome
+returns-2 c =
+    let a = c .before .before .before .before .before .before .before .before .before .before .before .before .before .before .args in
+    let e = sym (c .before .before .before .before .before .before .before .before .before .before .before .squared .ensures) ∙ c .before .before .before .before .before .enum-told .given .1 in
+    let g = distances-grid (a .of) (a .corr .now) (a .columns) (squared-done _ _ _ _ e .cells) in
+    let l = laid-done pz _ (length (a .out .now)) (grid (a .columns) (a .columns) (distanceCell (a .of) (a .corr .now) (a .columns))) e in
+    (rw (c .answered2 .ensures, c .before .before .before .before .before .before .before .before .before .before .before .squared .ensures), rw (c .before .before .before .fill-distances .ensures, c .before .before .before .before .before .before .before .before .before .clear .ensures, g) l)
+
+pub corr-to-distances-spec : {M : Type 1} → statement M
+corr-to-distances-spec =
+    tie.close
+    (tie.spec
+    squared-requires
+    clear-requires
+    enum-told
+    enum-told-2
+    answered-requires
+    same-length
+    returns
+    fill-distances-requires
+    answered-requires-2
+    same-length-2
+    returns-2)

@@ -1,0 +1,3 @@
+pub mod Covariance
+pub mod Expected
+pub mod Kept

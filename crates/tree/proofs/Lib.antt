@@ -1,0 +1,6 @@
+pub mod Rows
+pub mod Tree
+pub mod Walk
+pub mod Order
+pub mod Answer
+mod Figures
