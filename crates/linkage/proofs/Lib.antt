@@ -1,0 +1,5 @@
+pub mod Laws
+pub mod Scan
+pub mod Rows
+pub mod Judged
+pub mod Figures

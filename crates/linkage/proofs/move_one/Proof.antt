@@ -1,0 +1,79 @@
+-- `linkage::move_one` meets its contract. Assumes nothing.
+use borrow.Author.Tests.{eq-eqb, ne-eqb}
+use Rattle.linkage.specs.Merge.{moved, movable}
+use borrow.Author.Needs.{needs}
+use Rattle.linkage.proofs.move_one.Statement.{statement}
+use Rattle.linkage.proofs.move_one.Tie as tie
+
+element-copy-out-if1 : tie.Need-element-copy-out-if1
+element-copy-out-if1 c = search needs
+
+at-requires : tie.Need-at-requires
+at-requires c κs = search needs
+
+at-requires-2 : tie.Need-at-requires-2
+at-requires-2 c κs = search needs
+
+mul-update : tie.Need-mul-update
+mul-update c = search needs
+
+element-copy-out-update : tie.Need-element-copy-out-update
+element-copy-out-update c = search needs
+
+mul-update-2 : tie.Need-mul-update-2
+mul-update-2 c = search needs
+
+element-copy-out-update-2 : tie.Need-element-copy-out-update-2
+element-copy-out-update-2 c = search needs
+
+mul-update-3 : tie.Need-mul-update-3
+mul-update-3 c = search needs
+
+element-copy-out-update-3 : tie.Need-element-copy-out-update-3
+element-copy-out-update-3 c = search needs
+
+update-requires : tie.Need-update-requires
+update-requires c κs = search needs
+
+put-both-requires : tie.Need-put-both-requires
+put-both-requires c κs = search needs
+
+returns : tie.Need-returns
+unfolding moved movable
+returns c =
+    let u = c .before .before in
+    let e = u .before .before .before .before in
+    let t = e .before .before .before .before in
+    rw (t .before .before .if1 .taken, ne-eqb _ _ (t .before .if2 .taken), ne-eqb _ _ (t .if3 .taken), ← e .before .before .at .ensures, ← e .at2 .ensures, ← u .update .ensures) (c .put-both .ensures)
+
+returns-2 : tie.Need-returns-2
+unfolding moved movable
+returns-2 c = rw (c .before .before .if1 .taken, ne-eqb _ _ (c .before .if2 .taken), eq-eqb _ _ (c .if3 .left))
+
+returns-3 : tie.Need-returns-3
+unfolding moved movable
+returns-3 c = rw (c .before .if1 .taken, eq-eqb _ _ (c .if2 .left))
+
+returns-4 : tie.Need-returns-4
+unfolding moved movable
+returns-4 c = rw (c .if1 .left)
+
+pub move-one-spec : {M : Type 1} → statement M
+move-one-spec =
+    tie.close
+    (tie.spec
+    element-copy-out-if1
+    at-requires
+    at-requires-2
+    mul-update
+    element-copy-out-update
+    mul-update-2
+    element-copy-out-update-2
+    mul-update-3
+    element-copy-out-update-3
+    update-requires
+    put-both-requires
+    returns
+    returns-2
+    returns-3
+    returns-4)

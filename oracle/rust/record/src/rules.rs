@@ -1,0 +1,85 @@
+//! The refusals that the source does not have, by document 01's sentences. "Always 9, 10, 11 first."
+
+/// 9: "a number of assets, rows, columns or cells, or a text, is over its limit"; "a matrix has at most 64 columns, 4,096 rows and 4,096 cells".
+fn over_limit(rows: usize, columns: usize) -> bool {
+    rows > 4096 || columns > 64 || rows * columns > 4096
+}
+
+/// The sizes of one matrix of `len` cells whose answer needs `need` entries of a buffer of `room`; `square` where it must be.
+pub fn matrix(rows: usize, columns: usize, len: usize, room: usize, need: impl Fn() -> usize, square: bool) -> Result<(), u8> {
+    if over_limit(rows, columns) {
+        return Err(9);
+    }
+    // 10: "a matrix's slice isn't rows times columns long".
+    if len != rows * columns {
+        return Err(10);
+    }
+    // 11: "an answer buffer is too short".
+    if room < need() {
+        return Err(11);
+    }
+    // 3: "a matrix that must be square and isn't".
+    if square && rows != columns {
+        return Err(3);
+    }
+    Ok(())
+}
+
+/// The leaf order's own: 9 over n, 11 ("n for order"), then "n = 0 is 1, then 14".
+pub fn leaf_order(n: usize, node: usize, ids: &[usize], room: usize) -> Result<(), u8> {
+    if n > 64 {
+        return Err(9);
+    }
+    if room < n {
+        return Err(11);
+    }
+    if n == 0 {
+        return Err(1);
+    }
+    // 14: "merge rows are no tree, a node number is above 2n − 2".
+    if !is_tree(ids, n) || node > 2 * n - 2 {
+        return Err(14);
+    }
+    Ok(())
+}
+
+/// 14: "a given leaf order isn't each asset once".
+pub fn order(order: &[usize], n: usize) -> Result<(), u8> {
+    if order.len() == n && each_once(order, n) {
+        Ok(())
+    } else {
+        Err(14)
+    }
+}
+
+/// "Merge rows are a tree when there are n − 1, row k names only ids below n + k, and each id 0 to 2n − 3 occurs once."
+fn is_tree(ids: &[usize], n: usize) -> bool {
+    ids.len() == 2 * (n - 1) && ids.iter().enumerate().all(|(i, &id)| id < n + i / 2) && each_once(ids, 2 * (n - 1))
+}
+
+fn each_once(list: &[usize], n: usize) -> bool {
+    (0..n).all(|x| list.iter().filter(|&&y| y == x).count() == 1)
+}
+
+/// The entries that an answer needs: "2(n − 1) numbers for rows, .. n² for each seriated matrix (0 where n = 0), elsewhere the answer's cells;
+/// n is a lone matrix's columns".
+pub mod need {
+    /// "Step s keeps rows s − 1, 2s − 1, ... and keeps all rows where there are fewer than s or s is 0."
+    pub fn sampled(rows: usize, columns: usize, step: usize) -> usize {
+        let kept = if step == 0 || rows < step { rows } else { rows / step };
+        kept * columns
+    }
+
+    /// Returns of 0 or 1 price rows need 0 cells.
+    pub fn returns(rows: usize, columns: usize) -> usize {
+        rows.saturating_sub(1) * columns
+    }
+
+    pub fn square(columns: usize) -> usize {
+        columns * columns
+    }
+
+    pub fn children(columns: usize) -> usize {
+        2 * columns.saturating_sub(1)
+    }
+}
