@@ -14,9 +14,10 @@ use Rattle.refusal.specs.declared.Refusal.{Refusal}
 use Rattle.refusal.specs.declared.Refusal.the-variants.{DimensionMismatch, ShortBuffer}
 use Rattle.refusal.specs.declared.Outcome.{Outcome}
 use Rattle.refusal.specs.declared.Outcome.the-variants.{Done, Refused}
-use Rattle.refusal.proofs.Tables.{none, first-append, first-done, first-refused, both-done}
+use Rattle.refusal.proofs.Tables.{none, first-done, first-refused, parts-done}
 use Rattle.lent.specs.Grid.{over}
-use Rattle.lent.specs.Lent.{overLimit, otherLength, sizes, squares, laid}
+use Rattle.lent.specs.Lent.{overLimit, otherLength, sizes, squares, laid, answerOf}
+use Rattle.lent.specs.declared.Answer.{Answer}
 use Rattle.lent.proofs.Laws.{same-or-not, over-replicate}
 
 -- ---- the tests
@@ -99,14 +100,10 @@ pub squared-sized : (len rows w room : ℕ) → first (sizes len rows w) ≡ Don
 unfolding squares
 squared-sized len rows w room e = first-done (sizes len rows w) _ e
 
--- what `first a ≡ Done` says of the part before, where the whole is done
-front-done : (a b : List Line) → first (a ++ b) ≡ Done → first a ≡ Done
-front-done a b e = both-done (first a) (first b) (sym (first-append a b) ∙ e) .0
-
 pub squared-done : (len rows w room : ℕ) → first (squares len rows w room) ≡ Done → Squared len rows w room
 unfolding squares
 squared-done len rows w room e =
-    let d = front-done (sizes len rows w) _ e in
+    let d = parts-done (sizes len rows w) _ e .0 in
     let s = sized-done len rows w d in
     let a = none _ (sym (first-done (sizes len rows w) _ d) ∙ e) in
     let q : rows ≡ w = eqb-true rows w (not-false (eqb rows w) (a .1 .0)) in
@@ -123,3 +120,14 @@ module _ {A : Type 0} (z : A) where
   pub laid-refused : (o : Outcome) (r : Refusal) (room : ℕ) (cells : List A) → o ≡ Refused r → replicate room z ≡ laid z o room cells
   unfolding laid
   laid-refused o r room cells e = rw e
+
+-- ---- how a call ends that judges, clears, fills and answers: what it returns, and what its buffer holds
+
+module _ {A : Type 0} (z : A) (said o : Outcome) (answer : Answer) (rows w room : ℕ) (cells out : List A) where
+  pub ends-refused : (r : Refusal) → said ≡ o → said ≡ Refused r → answer ≡ answerOf said rows w → out ≡ replicate room z
+      → (answer ≡ answerOf o rows w) × (out ≡ laid z o room cells)
+  ends-refused r e h a b = (rw (← e) a, b ∙ laid-refused z o r room cells (sym e ∙ h))
+
+  pub ends-done : (blank : List A) → said ≡ o → said ≡ Done → answer ≡ answerOf said rows w → out ≡ over cells blank → blank ≡ replicate room z
+      → (answer ≡ answerOf o rows w) × (out ≡ laid z o room cells)
+  ends-done blank e h a f b = (rw (← e) a, f ∙ rw b (laid-done z o room cells (sym e ∙ h)))

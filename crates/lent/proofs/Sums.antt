@@ -103,7 +103,7 @@ any-hit f (suc n) k h e =
     (λ l. rw (any-hit f n k l e))
     (eq-or-lt-of-le (le-of-suc-le-suc h))
 
-no-or : (a b : Bool) → (a || b) ≡ false → (a ≡ false) × (b ≡ false)
+pub no-or : (a b : Bool) → (a || b) ≡ false → (a ≡ false) × (b ≡ false)
 no-or true b e = absurd (let z : _≡_ {A = ℕ} 0 1 = cc in omega arith)
 no-or false b e = (refl, e)
 

@@ -9,7 +9,7 @@ use Rattle.refusal.specs.Table.{first}
 use Rattle.refusal.specs.declared.Refusal.{Refusal}
 use Rattle.refusal.specs.declared.Refusal.the-variants.{DimensionMismatch, ShortBuffer}
 use Rattle.refusal.specs.declared.Outcome.the-variants.{Done, Refused}
-use Rattle.refusal.proofs.Tables.{none, first-append, first-done, first-refused, both-done}
+use Rattle.refusal.proofs.Tables.{none, first-done, first-refused, parts-done}
 use Rattle.lent.specs.Lent.{sizes}
 use Rattle.lent.proofs.Sizes.{sized-done}
 use Rattle.linkage.specs.Children.{childrenTable}
@@ -32,7 +32,7 @@ pub record Judged (len w room : ℕ) : Type 0 where
 pub children-done : (len rows w room : ℕ) → first (childrenTable len rows w room) ≡ Done → Judged len w room
 unfolding childrenTable
 children-done len rows w room e =
-    let d : first (sizes len rows w) ≡ Done = both-done (first (sizes len rows w)) _ (sym (first-append (sizes len rows w) _) ∙ e) .0 in
+    let d : first (sizes len rows w) ≡ Done = parts-done (sizes len rows w) _ e .0 in
     let s = sized-done len rows w d in
     let a = none _ (sym (first-done (sizes len rows w) _ d) ∙ e) in
     let q : rows ≡ w = eqb-true rows w (not-false (eqb rows w) (a .1 .0)) in

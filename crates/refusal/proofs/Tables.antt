@@ -1,6 +1,6 @@
 -- The laws of tables of refusals. Assumes nothing.
 use Prim.Native.Nat.{ℕ}
-use mathlib.Core.Path.{_≡_, refl}
+use mathlib.Core.Path.{_≡_, refl, sym, _∙_}
 use mathlib.Core.Bool.{Bool, true, false}
 use mathlib.Core.List.{List, [], _∷_, _++_}
 use native.Mathlib.Omega.{arith}
@@ -76,3 +76,7 @@ pub both-done : (a b : Outcome) → andThen a b ≡ Done → (a ≡ Done) × (b 
 unfolding andThen
 both-done Done b e = (refl, e)
 both-done (Refused r) b e = absurd (let z : _≡_ {A = ℕ} 0 1 = cc in omega arith)
+
+-- both parts of a table that is done
+pub parts-done : (a b : List Line) → first (a ++ b) ≡ Done → (first a ≡ Done) × (first b ≡ Done)
+parts-done a b e = both-done (first a) (first b) (sym (first-append a b) ∙ e)

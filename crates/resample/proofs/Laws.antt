@@ -16,11 +16,11 @@ use Rattle.refusal.specs.declared.Refusal.{Refusal}
 use Rattle.refusal.specs.declared.Refusal.the-variants.{NoData, ShortBuffer}
 use Rattle.refusal.specs.declared.Outcome.{Outcome}
 use Rattle.refusal.specs.declared.Outcome.the-variants.{Done, Refused}
-use Rattle.refusal.proofs.Tables.{none, first-append, both-done, then-done, then-refused, table-hit, table-pass, table-end}
+use Rattle.refusal.proofs.Tables.{none, first-append, parts-done, then-done, then-refused, table-hit, table-pass, table-end}
 use Rattle.lent.specs.Grid.{grid, zeros, over}
 use Rattle.lent.specs.Lent.{sizes, answerOf}
 use Rattle.lent.proofs.Laws.{either}
-use Rattle.lent.proofs.Sums.{any-none, any-more, any-hit}
+use Rattle.lent.proofs.Sums.{no-or, any-none, any-more, any-hit}
 use Rattle.lent.proofs.Sizes.{sized-done, laid-done, laid-refused}
 use Rattle.resample.specs.Resample.{isWeekly, isMonthly, stepOf, keepsAll, keptRows, keptRow, sampledCell, samplingTable, samplingOutcome, sampledAnswer, sampledPrices, returnCell, zeroMet, returnsTable, returnsOutcome, returnsAnswer, returnsOf}
 
@@ -40,10 +40,6 @@ module _ (name : List ℕ) where
   step-other e h = rw (e, h)
 
 -- ---- the rows kept
-
-no-or : (a b : Bool) → (a || b) ≡ false → (a ≡ false) × (b ≡ false)
-no-or true b e = absurd (let z : _≡_ {A = ℕ} 0 1 = cc in omega arith)
-no-or false b e = (refl, e)
 
 module _ (rows s : ℕ) where
   pub all-few : s ≤ 1 → leb s 1 ≡ keepsAll rows s
@@ -113,7 +109,7 @@ module _ (len rows w s room : ℕ) where
   unfolding samplingTable
   sampling-done o e h =
       let l : List Line = (ltb room (keptRows rows s * w), ShortBuffer) ∷ [] in
-      let b = both-done (first (sizes len rows w)) (first l) (sym (first-append (sizes len rows w) l) ∙ sym e ∙ h) in
+      let b = parts-done (sizes len rows w) l (sym e ∙ h) in
       let z = sized-done len rows w (b .0) in
       let a = none l (b .1) in
       record { tall = z .tall; cells = z .cells; fits = ltb-false room (keptRows rows s * w) (a .0) }
@@ -164,7 +160,7 @@ module _ (len rows w room : ℕ) where
   pub accepted : (o : Outcome) → o ≡ judged len rows w room → o ≡ Done → Accepted
   accepted o e h =
       let l : List Line = (ltb room ((rows - 1) * w), ShortBuffer) ∷ (ltb rows 2, NoData) ∷ [] in
-      let b = both-done (first (sizes len rows w)) (first l) (sym (first-append (sizes len rows w) l) ∙ sym e ∙ h) in
+      let b = parts-done (sizes len rows w) l (sym e ∙ h) in
       let z = sized-done len rows w (b .0) in
       let a = none l (b .1) in
       record { cells = z .cells; two = ltb-false rows 2 (a .1 .0); fits = ltb-false room ((rows - 1) * w) (a .0) }

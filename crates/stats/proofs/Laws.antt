@@ -17,11 +17,9 @@ use Rattle.refusal.specs.declared.Refusal.{Refusal}
 use Rattle.refusal.specs.declared.Refusal.the-variants.{NoData, DimensionMismatch, ShortBuffer}
 use Rattle.refusal.specs.declared.Outcome.{Outcome}
 use Rattle.refusal.specs.declared.Outcome.the-variants.{Done, Refused}
-use Rattle.refusal.proofs.Tables.{table, table-end, none, first-append, first-done, first-refused, both-done}
-use Rattle.lent.specs.Grid.{zeros, over}
-use Rattle.lent.specs.Lent.{sizes, squares, laid, answerOf}
-use Rattle.lent.specs.declared.Answer.{Answer}
-use Rattle.lent.proofs.Sizes.{sized-done, squared-done, laid-done, laid-refused}
+use Rattle.refusal.proofs.Tables.{table, table-end, none, first-done, first-refused, parts-done}
+use Rattle.lent.specs.Lent.{sizes, squares}
+use Rattle.lent.proofs.Sizes.{sized-done, squared-done}
 use Rattle.stats.specs.Covariance.{meanOf, spread, covarianceOf, covarianceCell, covarianceTable, covarianceOutcome, shrinkOutcome, anyLow, correlationTable, correlationOutcome}
 use Rattle.stats.specs.Expected.{f501, weightAt, expectedOutcome}
 use Rattle.stats.specs.Kept.{Whole, Kept}
@@ -89,10 +87,6 @@ module _ (xs : List Float) (rows w room : ℕ) where
 
 -- ---- what a call that is not refused knows
 
--- both parts of a table that goes on
-parts-done : (a b : List Line) → first (a ++ b) ≡ Done → (first a ≡ Done) × (first b ≡ Done)
-parts-done a b e = both-done (first a) (first b) (sym (first-append a b) ∙ e)
-
 pub record Sampled (xs : List Float) (rows w room : ℕ) : Type 0 where
   pub whole : Whole xs rows w
   pub some : 2 ≤ rows
@@ -136,12 +130,3 @@ unfolding expectedOutcome
 expected-done xs rows w room said e h =
     let d = parts-done (sizes (length xs) rows w) _ (sym e ∙ h) in
     record { cells = sized-done (length xs) rows w (d .0) .cells; roomy = ltb-false room w (none _ (d .1) .0) }
-
--- ---- how a public call ends: what it returns, and what its buffer holds
-
-module _ (said o : Outcome) (answer : Answer) (rows w room : ℕ) (cells out : List Float) where
-  pub ends-refused : (r : Refusal) → said ≡ o → said ≡ Refused r → answer ≡ answerOf said rows w → out ≡ zeros room → (answer ≡ answerOf o rows w) × (out ≡ laid pz o room cells)
-  ends-refused r e h a z = (rw (← e) a, z ∙ laid-refused pz o r room cells (sym e ∙ h))
-
-  pub ends-done : (blank : List Float) → said ≡ o → said ≡ Done → answer ≡ answerOf said rows w → out ≡ over cells blank → blank ≡ zeros room → (answer ≡ answerOf o rows w) × (out ≡ laid pz o room cells)
-  ends-done blank e h a f z = (rw (← e) a, f ∙ rw z (laid-done pz o room cells (sym e ∙ h)))

@@ -17,7 +17,7 @@ use Rattle.refusal.specs.declared.Refusal.{Refusal}
 use Rattle.refusal.specs.declared.Refusal.the-variants.{NoTree}
 use Rattle.refusal.specs.declared.Outcome.{Outcome}
 use Rattle.refusal.specs.declared.Outcome.the-variants.{Done, Refused}
-use Rattle.refusal.proofs.Tables.{none, table-end, table-pass, first-append, first-done, both-done}
+use Rattle.refusal.proofs.Tables.{none, table-end, table-pass, first-append, first-done, parts-done}
 use Rattle.lent.specs.Grid.{grid, zeros, noughts, over}
 use Rattle.lent.specs.Lent.{squares, laid, answerOf}
 use Rattle.lent.specs.declared.Answer.the-variants.{Matrix}
@@ -102,7 +102,7 @@ unfolding seriateOutcome
 seriate-done m rows w order room e =
     let s = squares (length m) rows w room in
     let t : List Line = (not (isOrder order w), NoTree) ∷ [] in
-    let both = both-done (first s) (first t) (sym (first-append s t) ∙ e) in
+    let both = parts-done s t e in
     (squared-done (length m) rows w room (both .0), not-false (isOrder order w) (none t (both .1) .0))
 
 pub seriate-passes : (m : List Float) (rows w : ℕ) (order : List ℕ) (room : ℕ) → first (squares (length m) rows w room) ≡ Done → isOrder order w ≡ true

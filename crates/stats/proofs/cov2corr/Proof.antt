@@ -2,7 +2,8 @@
 use native.Mathlib.Omega.{arith}
 use borrow.Author.Needs.{needs}
 use Rattle.stats.specs.Covariance.{correlationAnswer, correlations}
-use Rattle.stats.proofs.Laws.{correlation-done, ends-refused, ends-done}
+use Rattle.stats.proofs.Laws.{correlation-done}
+use Rattle.lent.proofs.Sizes.{ends-refused, ends-done}
 use Rattle.stats.proofs.cov2corr.Statement.{statement}
 use Rattle.stats.proofs.cov2corr.Tie as tie
 
@@ -28,7 +29,7 @@ returns : tie.Need-returns
 unfolding correlationAnswer correlations
 returns c =
     let t = c .before .before .before .before .before in
-    ends-refused _ _ _ _ _ _ _ _ _ (t .before .before .judge-correlation .ensures) (c .before .enum-told2 .given .1) (c .answered .ensures) (t .clear .ensures)
+    ends-refused _ _ _ _ _ _ _ _ _ _ (t .before .before .judge-correlation .ensures) (c .before .enum-told2 .given .1) (c .answered .ensures) (t .clear .ensures)
 
 roots-requires : tie.Need-roots-requires
 roots-requires c κs = correlation-done _ _ _ _ _ (c .before .before .before .before .before .before .judge-correlation .ensures) (c .enum-told .given .1) .whole
@@ -49,7 +50,7 @@ returns-2 : tie.Need-returns-2
 unfolding correlationAnswer correlations
 returns-2 c =
     let t = c .before .before .before .before .before .before .before in
-    ends-done _ _ _ _ _ _ _ _ _ (t .before .before .before .before .before .before .judge-correlation .ensures) (t .enum-told .given .1) (c .answered2 .ensures) (c .before .before .before .correlation-rows .ensures) (t .before .before .before .before .clear .ensures)
+    ends-done _ _ _ _ _ _ _ _ _ _ (t .before .before .before .before .before .before .judge-correlation .ensures) (t .enum-told .given .1) (c .answered2 .ensures) (c .before .before .before .correlation-rows .ensures) (t .before .before .before .before .clear .ensures)
 
 pub cov2corr-spec : {M : Type 1} → statement M
 cov2corr-spec =

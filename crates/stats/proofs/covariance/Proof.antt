@@ -2,7 +2,8 @@
 use native.Mathlib.Omega.{arith}
 use borrow.Author.Needs.{needs}
 use Rattle.stats.specs.Covariance.{covarianceAnswer, covariances}
-use Rattle.stats.proofs.Laws.{covariance-done, ends-refused, ends-done}
+use Rattle.stats.proofs.Laws.{covariance-done}
+use Rattle.lent.proofs.Sizes.{ends-refused, ends-done}
 use Rattle.stats.proofs.covariance.Statement.{statement}
 use Rattle.stats.proofs.covariance.Tie as tie
 
@@ -28,7 +29,7 @@ returns : tie.Need-returns
 unfolding covarianceAnswer covariances
 returns c =
     let t = c .before .before .before .before .before in
-    ends-refused _ _ _ _ _ _ _ _ _ (t .before .before .judge-covariance .ensures) (c .before .enum-told2 .given .1) (c .answered .ensures) (t .clear .ensures)
+    ends-refused _ _ _ _ _ _ _ _ _ _ (t .before .before .judge-covariance .ensures) (c .before .enum-told2 .given .1) (c .answered .ensures) (t .clear .ensures)
 
 means-requires : tie.Need-means-requires
 means-requires c κs = covariance-done _ _ _ _ _ (c .before .before .before .before .before .before .judge-covariance .ensures) (c .enum-told .given .1) .whole
@@ -49,7 +50,7 @@ returns-2 : tie.Need-returns-2
 unfolding covarianceAnswer covariances
 returns-2 c =
     let t = c .before .before .before .before .before .before .before in
-    ends-done _ _ _ _ _ _ _ _ _ (t .before .before .before .before .before .before .judge-covariance .ensures) (t .enum-told .given .1) (c .answered2 .ensures) (c .before .before .before .covariance-rows .ensures) (t .before .before .before .before .clear .ensures)
+    ends-done _ _ _ _ _ _ _ _ _ _ (t .before .before .before .before .before .before .judge-covariance .ensures) (t .enum-told .given .1) (c .answered2 .ensures) (c .before .before .before .covariance-rows .ensures) (t .before .before .before .before .clear .ensures)
 
 pub covariance-spec : {M : Type 1} → statement M
 covariance-spec =

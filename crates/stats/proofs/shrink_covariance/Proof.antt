@@ -2,7 +2,8 @@
 use native.Mathlib.Omega.{arith}
 use borrow.Author.Needs.{needs}
 use Rattle.stats.specs.Covariance.{shrinkOutcome, shrinkAnswer, shrunk}
-use Rattle.stats.proofs.Laws.{shrink-done, ends-refused, ends-done}
+use Rattle.stats.proofs.Laws.{shrink-done}
+use Rattle.lent.proofs.Sizes.{ends-refused, ends-done}
 use Rattle.stats.proofs.shrink_covariance.Statement.{statement}
 use Rattle.stats.proofs.shrink_covariance.Tie as tie
 
@@ -28,7 +29,7 @@ returns : tie.Need-returns
 unfolding shrinkOutcome shrinkAnswer shrunk
 returns c =
     let t = c .before .before .before .before .before in
-    ends-refused _ _ _ _ _ _ _ _ _ (t .before .before .squared .ensures) (c .before .enum-told2 .given .1) (c .answered .ensures) (t .clear .ensures)
+    ends-refused _ _ _ _ _ _ _ _ _ _ (t .before .before .squared .ensures) (c .before .enum-told2 .given .1) (c .answered .ensures) (t .clear .ensures)
 
 shrunk-rows-requires : tie.Need-shrunk-rows-requires
 unfolding shrinkOutcome
@@ -47,7 +48,7 @@ returns-2 : tie.Need-returns-2
 unfolding shrinkOutcome shrinkAnswer shrunk
 returns-2 c =
     let t = c .before .before .before .before .before in
-    ends-done _ _ _ _ _ _ _ _ _ (t .before .before .before .before .before .before .squared .ensures) (t .enum-told .given .1) (c .answered2 .ensures) (c .before .before .before .shrunk-rows .ensures) (t .before .before .before .before .clear .ensures)
+    ends-done _ _ _ _ _ _ _ _ _ _ (t .before .before .before .before .before .before .squared .ensures) (t .enum-told .given .1) (c .answered2 .ensures) (c .before .before .before .shrunk-rows .ensures) (t .before .before .before .before .clear .ensures)
 
 pub shrink-covariance-spec : {M : Type 1} → statement M
 shrink-covariance-spec =
