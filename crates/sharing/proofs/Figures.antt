@@ -1,0 +1,128 @@
+-- Figures for sharing down given merge rows, and for the names of metrics, computed as one table. Assumes nothing.
+use Prim.Native.Nat.{ℕ}
+use mathlib.Core.Path.{_≡_, refl}
+use mathlib.Core.Bool.{Bool, true, false, _&&_}
+use mathlib.Core.List.{List, [], _∷_, _++_, map}
+use lib.Count.{trailingZeros}
+use lib.Ieee.{Float, binary64, ofBits, ofFields, toBits, add, sum, round, size, span, climb, units, odd, sub, neg, mul, div, ofInt, lt, le, isNan}
+use Rattle.arithmetic.specs.Arithmetic.{maxOf, clampOf, finiteOf, oneOver}
+use Rattle.arithmetic.specs.Root.{root, isqrt}
+use Rattle.refusal.specs.Refusal.{numberOf, valuesOf}
+use Rattle.refusal.specs.Table.{first}
+use Rattle.lent.specs.Count.{count}
+use Rattle.lent.specs.Grid.{tab, sumTo, sumOn, sumRows, anyTo}
+use Rattle.lent.specs.Lent.{overLimit, otherLength, laid, answerOf}
+use Rattle.lent.specs.declared.Answer.{Answer}
+use Rattle.lent.specs.declared.Answer.the-variants as answer
+use Rattle.text.specs.Bytes.{bytes, same}
+use Rattle.tree.specs.Rows.{below, once, isTree}
+use Rattle.tree.specs.Tree.{grow, treeAt, leaves}
+use Rattle.clusters.specs.Clusters.{recip, recipSum, shares, term, varianceOf, expectation, ratio, outside, anyLow, riskTable, sizeTable, sharesOutcome, varianceOutcome, varianceAnswer}
+use Rattle.clusters.specs.Shares.{isNone, weightsIn}
+use Rattle.sharing.specs.declared.Metric.{Metric}
+use Rattle.sharing.specs.declared.Metric.the-variants.{MinimumVariance, MinimumStandardDeviation, SharpeRatio, EqualWeighting}
+use Rattle.sharing.specs.declared.NamedMetric.{NamedMetric}
+use Rattle.sharing.specs.declared.NamedMetric.the-variants as metric
+use Rattle.sharing.specs.Names.{isTailRisk, metricNamed}
+use Rattle.sharing.specs.Split.{bounded, splitBy, byRisk, fair, byRatio, scored, splitOf}
+use Rattle.sharing.specs.Allot.{spreadOf, equalOf, dealTo, variedOf, insideOf, allotted, sharesOf}
+use Rattle.sharing.specs.Down.{isSharpe, Call, call, callTable, downTable, downOutcome, downAnswer, downWeights}
+
+abbrev all : List Bool → Bool
+all [] = true
+all (b ∷ bs) = b && all bs
+
+-- the refusal's number and values, or 0 and the answer's rows and columns
+abbrev told-of : Answer → List ℕ
+told-of (answer.Matrix r c) = 0 ∷ r ∷ c ∷ []
+told-of (answer.Refused r) = numberOf r ∷ valuesOf r
+
+-- and the bits of the buffer
+abbrev shared : Call → ℕ → List ℕ
+shared q room = told-of (downAnswer q room) ++ map (toBits binary64) (downWeights q room)
+
+-- the bits of 0, 1, 0.5, 0.25, 0.75, the double nearest 1/3, 3, 9, −1 and infinity
+abbrev p0 : ℕ
+p0 = 0
+
+abbrev one : ℕ
+one = 0x3ff0_0000_0000_0000
+
+abbrev half : ℕ
+half = 0x3fe0_0000_0000_0000
+
+abbrev quarter : ℕ
+quarter = 0x3fd0_0000_0000_0000
+
+abbrev most : ℕ
+most = 0x3fe8_0000_0000_0000
+
+abbrev third : ℕ
+third = 0x3fd5_5555_5555_5555
+
+abbrev three : ℕ
+three = 0x4008_0000_0000_0000
+
+abbrev nine : ℕ
+nine = 0x4022_0000_0000_0000
+
+abbrev minus : ℕ
+minus = 0xbff0_0000_0000_0000
+
+abbrev big : ℕ
+big = 0x7ff0_0000_0000_0000
+
+abbrev floats : List ℕ → List Float
+floats xs = map (ofBits binary64) xs
+
+-- the job of document 01: A and B are 0.5 apart, C is alone
+abbrev job : ℕ → Call
+job k = call EqualWeighting [] false (floats (one ∷ half ∷ p0 ∷ half ∷ one ∷ p0 ∷ p0 ∷ p0 ∷ one ∷ [])) 3 3 (0 ∷ 1 ∷ 2 ∷ 3 ∷ []) 3 k
+
+-- two assets, 0 off the diagonal
+abbrev pair : Metric → List ℕ → Bool → ℕ → ℕ → ℕ → Call
+pair m expected given a b k = call m (floats expected) given (floats (a ∷ p0 ∷ p0 ∷ b ∷ [])) 2 2 (0 ∷ 1 ∷ []) 2 k
+
+-- 1 to 4 for the metrics, in the order of document 01's names; or 0 and the refusal's number
+abbrev named : NamedMetric → List ℕ
+named (metric.Of MinimumVariance) = 1 ∷ []
+named (metric.Of MinimumStandardDeviation) = 2 ∷ []
+named (metric.Of SharpeRatio) = 3 ∷ []
+named (metric.Of EqualWeighting) = 4 ∷ []
+named (metric.Refused r) = 0 ∷ numberOf r ∷ []
+
+abbrev figure-list : List Bool
+figure-list =
+    same (shared (job 3) 4) (0 ∷ 1 ∷ 3 ∷ quarter ∷ quarter ∷ half ∷ p0 ∷ [])
+    ∷ same (shared (job 2) 3) (0 ∷ 1 ∷ 3 ∷ quarter ∷ quarter ∷ half ∷ [])
+    ∷ same (shared (job 1) 3) (0 ∷ 1 ∷ 3 ∷ third ∷ third ∷ third ∷ [])
+    -- 6 with the count asked and the assets
+    ∷ same (shared (job 0) 3) (6 ∷ 0 ∷ 3 ∷ p0 ∷ p0 ∷ p0 ∷ [])
+    ∷ same (shared (job 4) 3) (6 ∷ 4 ∷ 3 ∷ p0 ∷ p0 ∷ p0 ∷ [])
+    -- "HCAA equal, (infinity, 1): 2 clusters 1, 1 cluster 0.5 each"
+    ∷ same (shared (pair EqualWeighting [] false big one 2) 2) (1 ∷ p0 ∷ p0 ∷ [])
+    ∷ same (shared (pair EqualWeighting [] false big one 1) 2) (0 ∷ 1 ∷ 2 ∷ half ∷ half ∷ [])
+    -- a variance that neither a side nor a cut by inverse variance reads is not looked at
+    ∷ same (shared (call MinimumVariance [] false (floats (minus ∷ [])) 1 1 [] 1 1) 1) (0 ∷ 1 ∷ 1 ∷ one ∷ [])
+    ∷ same (shared (pair EqualWeighting [] false minus one 1) 2) (0 ∷ 1 ∷ 2 ∷ half ∷ half ∷ [])
+    ∷ same (shared (pair MinimumVariance [] false minus one 1) 2) (1 ∷ p0 ∷ p0 ∷ [])
+    -- the factors
+    ∷ same (shared (pair MinimumVariance [] false one three 2) 2) (0 ∷ 1 ∷ 2 ∷ most ∷ quarter ∷ [])
+    ∷ same (shared (pair MinimumStandardDeviation [] false one nine 2) 2) (0 ∷ 1 ∷ 2 ∷ most ∷ quarter ∷ [])
+    ∷ same (shared (pair SharpeRatio (one ∷ three ∷ []) true one one 2) 2) (0 ∷ 1 ∷ 2 ∷ quarter ∷ most ∷ [])
+    ∷ same (shared (pair SharpeRatio (minus ∷ three ∷ []) true one one 2) 2) (0 ∷ 1 ∷ 2 ∷ half ∷ half ∷ [])
+    -- expected returns are one too few, or absent: 3, and 4 before 6
+    ∷ same (shared (pair SharpeRatio (one ∷ []) true one one 2) 2) (3 ∷ p0 ∷ p0 ∷ [])
+    ∷ same (shared (pair SharpeRatio [] false one one 0) 2) (4 ∷ p0 ∷ p0 ∷ [])
+    ∷ same (named (metricNamed (bytes "minimum_variance"))) (1 ∷ [])
+    ∷ same (named (metricNamed (bytes "minimum_standard_deviation"))) (2 ∷ [])
+    ∷ same (named (metricNamed (bytes "sharpe_ratio"))) (3 ∷ [])
+    ∷ same (named (metricNamed (bytes "equal_weighting"))) (4 ∷ [])
+    ∷ same (named (metricNamed (bytes "Equal_weighting"))) (0 ∷ 2 ∷ [])
+    ∷ same (named (metricNamed (bytes "expected_shortfall"))) (0 ∷ 12 ∷ [])
+    ∷ same (named (metricNamed (bytes "conditional_drawdown_risk"))) (0 ∷ 12 ∷ [])
+    ∷ []
+
+pub figures : all figure-list ≡ true
+unfolding same isTailRisk metricNamed isSharpe callTable downTable downOutcome downAnswer downWeights sharesOf allotted insideOf variedOf equalOf spreadOf dealTo splitOf scored byRisk byRatio fair splitBy bounded isNone weightsIn recip recipSum shares term varianceOf expectation ratio outside anyLow riskTable sizeTable sharesOutcome varianceOutcome varianceAnswer first count below once isTree grow treeAt leaves tab sumTo sumOn sumRows anyTo overLimit otherLength laid answerOf maxOf clampOf finiteOf oneOver root isqrt lt le isNan add sum sub neg mul div ofInt round units odd trailingZeros size span climb ofFields ofBits toBits
+figures = refl

@@ -1,0 +1,350 @@
+-- The refusals of `allocate_down_tree`, and what an accepted call says. Assumes nothing.
+--     down-accepted      the sizes, the tree and the counts are right, there are weights, and as many as assets
+--     down-as-shares     where the sizes, the tree and the counts are right, only the recursion can refuse
+use Prim.Native.Nat.{ℕ, zero, suc, _-_, _*_, _<_, _≤_}
+use mathlib.Core.Path.{_≡_, refl, sym, ap, subst, _∙_}
+use mathlib.Core.Bool.{Bool, true, false, not, _&&_, _||_}
+use mathlib.Core.List.{List, [], _∷_, _++_}
+use native.Mathlib.Nat.{le-refl}
+use native.Mathlib.Omega.{arith}
+use borrow.Author.Tests.{ltb-false, le-ltb, eq-eqb, ne-eqb, eqb-true, eqb-false, not-false}
+use lib.Dec.{ltb, eqb}
+use lib.ListN.{length, set, take, drop, getD-replicate, length-set, length-replicate, length-append, length-drop}
+use lib.Seq.{length-take-le, ext-getD, getD-take}
+use lib.Ieee.{Float, binary64, mul, sub}
+use Rattle.arithmetic.specs.Constants.{pz, unit}
+use Rattle.refusal.specs.Table.{Line, first, orElse}
+use Rattle.refusal.specs.declared.Refusal.{Refusal}
+use Rattle.refusal.specs.declared.Refusal.the-variants.{NoData, DimensionMismatch, MissingExpectedReturnsForSharpe, InvalidNumClusters, OverLimit, SliceLength, ShortBuffer, NoTree}
+use Rattle.refusal.specs.declared.Outcome.{Outcome}
+use Rattle.refusal.specs.declared.Outcome.the-variants.{Done, Refused}
+use Rattle.refusal.proofs.Tables.{table, table-hit, table-pass, table-end, AllNo, none, first-append, first-done, first-refused, both-done}
+use Rattle.lent.specs.Grid.{zeros}
+use Rattle.lent.specs.Lent.{overLimit, otherLength, laid, answerOf}
+use Rattle.lent.specs.declared.Answer.{Answer}
+use Rattle.lent.specs.declared.Answer.the-variants as answer
+use Rattle.lent.proofs.Laws.{square-in, drop-replicate}
+use Rattle.lent.proofs.Sizes.{over-cells, same-length, laid-refused}
+use Rattle.tree.specs.Rows.{isTree}
+use Rattle.tree.specs.Tree.{Tree, leaf, fork, treeAt, leaves}
+use Rattle.clusters.specs.Shares.{Shares, some, told, isNone, weightsIn}
+use Rattle.clusters.specs.Shares as shares
+use Rattle.clusters.specs.Clusters.{sharesOutcome}
+use Rattle.clusters.specs.Clusters as inverse
+use Rattle.sharing.specs.declared.Metric.{Metric}
+use Rattle.sharing.specs.declared.Metric.the-variants.{MinimumVariance, MinimumStandardDeviation, SharpeRatio, EqualWeighting}
+use Rattle.sharing.specs.declared.Split.{Split}
+use Rattle.sharing.specs.declared.Splitting.{Splitting}
+use Rattle.sharing.specs.declared.Splitting.the-variants as splitting
+use Rattle.sharing.specs.Split.{splitOf}
+use Rattle.sharing.specs.Allot.{splits, spreadOf, equalOf, dealTo, ifDone, variedOf, insideOf, onward, allotted, allottedAt, sharesOf}
+use Rattle.sharing.specs.Down.{isSharpe, Call, callTable, downTable, downOutcome, downAnswer, downWeights}
+use Rattle.sharing.specs.Walk.{Down}
+
+-- ---- sharing keeps the number of weights
+
+spread-length : (ms : List ℕ) (w : Float) (ws : List Float) → length (spreadOf ms w ws) ≡ length ws
+unfolding spreadOf
+spread-length [] w ws = refl
+spread-length (a ∷ ms) w ws = spread-length ms w (set ws a w) ∙ simp length-set
+
+deal-length : (k : ℕ) (ms : List ℕ) (ps : List Float) (w : Float) (ws : List Float) → length (dealTo k ms ps w ws) ≡ length ws
+unfolding dealTo
+deal-length zero ms ps w ws = refl
+deal-length (suc k) ms ps w ws = simp length-set (deal-length k ms ps w ws)
+
+abbrev Keeps : Shares → ℕ → Type 0
+Keeps shares.none m = Unit
+Keeps (some ws) m = length ws ≡ m
+
+if-keeps : (o : Outcome) (ws : List Float) (m : ℕ) → length ws ≡ m → Keeps (ifDone o ws) m
+if-keeps Done ws m e = e
+if-keeps (Refused r) ws m e = tt
+
+onward-keeps : (s : Splitting) (f : Split → Shares) (m : ℕ) → ((x : Split) → Keeps (f x) m) → Keeps (onward s f) m
+onward-keeps (splitting.Refused r) f m h = tt
+onward-keeps (splitting.By x) f m h = h x
+
+then-keeps : (s : Shares) (f : List Float → Shares) (m : ℕ) → Keeps s m → ((mid : List Float) → length mid ≡ m → Keeps (f mid) m) → Keeps (shares.andThen s f) m
+then-keeps shares.none f m p h = tt
+then-keeps (some ws) f m p h = h ws p
+
+varied-keeps : (cov : List Float) (n : ℕ) (ms : List ℕ) (w : Float) (ws : List Float) → Keeps (variedOf cov n ms w ws) (length ws)
+unfolding variedOf
+varied-keeps cov n ms w ws =
+    if-keeps (sharesOutcome cov n n ms (length ms)) (dealTo (length ms) ms (inverse.shares cov n ms) w ws) (length ws) (deal-length (length ms) ms (inverse.shares cov n ms) w ws)
+
+inside-keeps : (metric : Metric) (cov : List Float) (n : ℕ) (ms : List ℕ) (w : Float) (ws : List Float) → Keeps (insideOf metric cov n ms w ws) (length ws)
+unfolding insideOf equalOf
+inside-keeps MinimumVariance cov n ms w ws = varied-keeps cov n ms w ws
+inside-keeps MinimumStandardDeviation cov n ms w ws = varied-keeps cov n ms w ws
+inside-keeps SharpeRatio cov n ms w ws = varied-keeps cov n ms w ws
+inside-keeps EqualWeighting cov n ms w ws = spread-length ms _ ws
+
+module _ (metric : Metric) (expected cov : List Float) (n k : ℕ) where
+  allot-keeps : (t : Tree) (b : Bool) (w : Float) (ws : List Float) (m : ℕ) → length ws ≡ m → Keeps (allotted metric expected cov n k t b w ws) m
+  unfolding allotted
+  allot-keeps (leaf a) b w ws m e = simp length-set e
+  allot-keeps (fork r l t) true w ws m e =
+      onward-keeps (splitOf metric expected cov n (leaves l) (leaves t)) _ m
+      (λ s. then-keeps (allotted metric expected cov n k l (splits n k l) (mul binary64 w (s .factor)) ws) _ m
+      (allot-keeps l (splits n k l) (mul binary64 w (s .factor)) ws m e)
+      (λ mid q. allot-keeps t (splits n k t) (mul binary64 w (sub binary64 unit (s .factor))) mid m q))
+  allot-keeps (fork r l t) false w ws m e = subst (λ (i : ℕ). Keeps (insideOf metric cov n (leaves (fork r l t)) w ws) i) e (inside-keeps metric cov n (leaves (fork r l t)) w ws)
+
+kept-of : (s : Shares) (m : ℕ) → Keeps s m → isNone s ≡ false → (s ≡ some (weightsIn s)) × (length (weightsIn s) ≡ m)
+unfolding isNone weightsIn
+kept-of shares.none m p e = absurd (let z : _≡_ {A = ℕ} 0 1 = cc in omega arith)
+kept-of (some ws) m p e = (refl, p)
+
+shares-keeps : (metric : Metric) (expected cov : List Float) (rows : List ℕ) (n k : ℕ) → Keeps (sharesOf metric expected cov rows n k) n
+unfolding sharesOf
+shares-keeps metric expected cov rows n k =
+    allot-keeps metric expected cov n k (treeAt rows n (2 * n - 2)) (splits n k (treeAt rows n (2 * n - 2))) unit (zeros n) n (length-replicate n pz)
+
+pub shares-length : (metric : Metric) (expected cov : List Float) (rows : List ℕ) (n k : ℕ) → isNone (sharesOf metric expected cov rows n k) ≡ false
+    → (sharesOf metric expected cov rows n k ≡ some (weightsIn (sharesOf metric expected cov rows n k))) × (length (weightsIn (sharesOf metric expected cov rows n k)) ≡ n)
+shares-length metric expected cov rows n k e = kept-of (sharesOf metric expected cov rows n k) n (shares-keeps metric expected cov rows n k) e
+
+-- ---- what a call of `share` told
+
+told-none : (t : Bool) (part : List Float) (s : Shares) → told t part ≡ s → t ≡ false → isNone s ≡ true
+unfolding told isNone
+told-none t part s p d = rw (← p, d)
+
+told-some : (t : Bool) (part : List Float) (s : Shares) → told t part ≡ s → t ≡ true → (isNone s ≡ false) × (weightsIn s ≡ part)
+unfolding told isNone weightsIn
+told-some t part s p d = (rw (← p, d), rw (← p, d))
+
+laid-front : (n room : ℕ) (part blank : List Float) → blank ≡ zeros room → length part ≡ n → part ++ drop n blank ≡ laid pz Done room part
+unfolding laid
+laid-front n room part blank b l = rw (b, drop-replicate, l)
+
+-- ---- the tests
+
+-- what the call's lines find right
+pub record Right (q : Call) (room : ℕ) : Type 0 where
+  pub some : 1 ≤ q .assets
+  pub most : q .assets ≤ 64
+  pub height : q .covariance-rows ≡ q .assets
+  pub width : q .covariance-columns ≡ q .assets
+  pub cells : length (q .covariance) ≡ q .assets * q .assets
+  pub fits : q .assets ≤ room
+  pub tree : isTree (q .rows) (q .assets) ≡ true
+  pub least : 1 ≤ q .clusters
+  pub cut : q .clusters ≤ q .assets
+  pub expects : isSharpe (q .metric) ≡ true → (q .expected-given ≡ true) × (length (q .expected) ≡ q .assets)
+
+neither : (a b : Bool) → (a || b) ≡ false → (a ≡ false) × (b ≡ false)
+neither true b e = absurd (let z : _≡_ {A = ℕ} 0 1 = cc in omega arith)
+neither false b e = (refl, e)
+
+same-number : (m n : ℕ) → not (eqb m n) ≡ false → m ≡ n
+same-number m n e = eqb-true m n (not-false (eqb m n) e)
+
+expecting : (b g : Bool) (len n : ℕ) → (b && (g && not (eqb len n))) ≡ false → (b && not g) ≡ false → b ≡ true → (g ≡ true) × (len ≡ n)
+expecting false g len n p q h = absurd (let z : _≡_ {A = ℕ} 0 1 = cc in omega arith)
+expecting true false len n p q h = absurd (let z : _≡_ {A = ℕ} 0 1 = cc in omega arith)
+expecting true true len n p q h = (refl, same-number len n p)
+
+expected-right : (b g : Bool) (len n : ℕ) → (b ≡ true → (g ≡ true) × (len ≡ n)) → ((b && (g && not (eqb len n))) ≡ false) × ((b && not g) ≡ false)
+expected-right false g len n h = (refl, refl)
+expected-right true g len n h = (rw (h refl .0, eq-eqb len n (h refl .1)), rw (h refl .0))
+
+all-no : (l : List Line) → AllNo l → first l ≡ Done
+unfolding first
+all-no [] p = refl
+all-no ((t, r) ∷ l) p = table-pass t r l (p .0) ∙ all-no l (p .1)
+
+module _ (q : Call) (room : ℕ) where
+  pub call-right : first (callTable q room) ≡ Done → Right q room
+  unfolding callTable
+  call-right e =
+      let a = none (callTable q room) e in
+      let s = neither _ _ (a .1 .1 .1 .1 .0) in
+      let k = neither _ _ (a .1 .1 .1 .1 .1 .1 .1 .1 .1 .0) in
+      let h = same-number (q .covariance-rows) (q .assets) (s .0) in
+      let w = same-number (q .covariance-columns) (q .assets) (s .1) in
+      let some-of : q .assets ≡ 0 → ⊥ = eqb-false (q .assets) 0 (a .1 .1 .1 .1 .1 .1 .0) in
+      let least-of : q .clusters ≡ 0 → ⊥ = eqb-false (q .clusters) 0 (k .0) in
+      record {
+        some = omega arith;
+        most = ltb-false 64 (q .assets) (a .0);
+        height = h;
+        width = w;
+        cells = same-length (length (q .covariance)) (q .covariance-rows) (q .covariance-columns) (a .1 .1 .0) ∙ ap (λ (i : ℕ). i * q .covariance-columns) h ∙ ap (λ (j : ℕ). q .assets * j) w;
+        fits = ltb-false room (q .assets) (a .1 .1 .1 .0);
+        tree = not-false (isTree (q .rows) (q .assets)) (a .1 .1 .1 .1 .1 .1 .1 .0);
+        least = omega arith;
+        cut = ltb-false (q .assets) (q .clusters) (k .1);
+        expects = expecting (isSharpe (q .metric)) (q .expected-given) (length (q .expected)) (q .assets) (a .1 .1 .1 .1 .1 .0) (a .1 .1 .1 .1 .1 .1 .1 .1 .0);
+      }
+
+  module _ (p : Right q room) where
+    small : overLimit (q .covariance-rows) (q .covariance-columns) ≡ false
+    small =
+        let s = square-in (q .assets) (p .most) in
+        let z : q .covariance-rows * q .covariance-columns ≤ 4096 = rw (p .height, p .width) s in
+        over-cells (q .covariance-rows) (q .covariance-columns) (omega (arith, p .most, p .height)) (omega (arith, p .most, p .width)) ∙ le-ltb 4096 (q .covariance-rows * q .covariance-columns) z
+
+    whole : otherLength (length (q .covariance)) (q .covariance-rows) (q .covariance-columns) ≡ false
+    unfolding otherLength
+    whole =
+        let z : length (q .covariance) ≡ q .covariance-rows * q .covariance-columns = rw (p .height, p .width) (p .cells) in
+        rw (eq-eqb (length (q .covariance)) (q .covariance-rows * q .covariance-columns) z)
+
+    pub right-passes : first (callTable q room) ≡ Done
+    unfolding callTable
+    right-passes =
+        let x = expected-right (isSharpe (q .metric)) (q .expected-given) (length (q .expected)) (q .assets) (p .expects) in
+        let one : 1 ≤ q .assets = p .some in
+        let two : 1 ≤ q .clusters = p .least in
+        all-no (callTable q room) (
+          le-ltb 64 (q .assets) (p .most),
+          (
+            small,
+            (
+              whole,
+              (
+                le-ltb room (q .assets) (p .fits),
+                (
+                  rw (eq-eqb (q .covariance-rows) (q .assets) (p .height), eq-eqb (q .covariance-columns) (q .assets) (p .width)),
+                  (
+                    x .0,
+                    (
+                      ne-eqb (q .assets) 0 (λ e. omega arith),
+                      (
+                        rw (p .tree),
+                        (
+                          x .1,
+                          (rw (ne-eqb (q .clusters) 0 (λ e. omega arith), le-ltb (q .assets) (q .clusters) (p .cut)), tt),
+                        ),
+                      ),
+                    ),
+                  ),
+                ),
+              ),
+            ),
+          ),
+        )
+
+  -- ---- the recursion's own line, and the answer
+
+  abbrev given : Shares
+  given = sharesOf (q .metric) (q .expected) (q .covariance) (q .rows) (q .assets) (q .clusters)
+
+  pub down-as-shares : Right q room → downOutcome q room ≡ first ((isNone (sharesOf (q .metric) (q .expected) (q .covariance) (q .rows) (q .assets) (q .clusters)), NoData) ∷ [])
+  unfolding downOutcome downTable
+  down-as-shares p = first-done (callTable q room) ((isNone given, NoData) ∷ []) (right-passes p)
+
+  pub record Accepted : Type 0 where
+    pub right : Right q room
+    pub weights : sharesOf (q .metric) (q .expected) (q .covariance) (q .rows) (q .assets) (q .clusters) ≡ some (weightsIn (sharesOf (q .metric) (q .expected) (q .covariance) (q .rows) (q .assets) (q .clusters)))
+    pub size : length (weightsIn (sharesOf (q .metric) (q .expected) (q .covariance) (q .rows) (q .assets) (q .clusters))) ≡ q .assets
+
+  pub down-accepted : downOutcome q room ≡ Done → Accepted
+  unfolding downOutcome downTable
+  down-accepted e =
+      let d = both-done (first (callTable q room)) (first ((isNone given, NoData) ∷ [])) (sym (first-append (callTable q room) ((isNone given, NoData) ∷ [])) ∙ e) in
+      let l = shares-length (q .metric) (q .expected) (q .covariance) (q .rows) (q .assets) (q .clusters) (none ((isNone given, NoData) ∷ []) (d .1) .0) in
+      record { right = call-right (d .0); weights = l .0; size = l .1 }
+
+  answered-as : (said o : Outcome) (a : Answer) (out : List Float) → downOutcome q room ≡ o → said ≡ o → a ≡ answerOf said 1 (q .assets) → out ≡ laid pz o room (weightsIn given) → (a ≡ downAnswer q room) × (out ≡ downWeights q room)
+  unfolding downAnswer downWeights
+  answered-as said o a out d s e z = (rw (d, ← s) e, rw d z)
+
+  module _ (said : Outcome) (e : said ≡ first (callTable q room)) where
+    -- before anything was shared out
+    pub down-refused : (r : Refusal) (a : Answer) (out : List Float) → said ≡ Refused r → a ≡ answerOf said 1 (q .assets) → out ≡ zeros room → (a ≡ downAnswer q room) × (out ≡ downWeights q room)
+    unfolding downOutcome downTable
+    down-refused r a out h g z =
+        answered-as said (Refused r) a out (first-refused (callTable q room) ((isNone given, NoData) ∷ []) r (sym e ∙ h)) h g (z ∙ laid-refused pz (Refused r) r room (weightsIn given) refl)
+
+    module _ (h : said ≡ Done) where
+      pub said-right : Right q room
+      said-right = call-right (sym e ∙ h)
+
+      -- sharing refused, and the buffer was cleared
+      pub down-none : (t : Bool) (part out : List Float) (len : ℕ) → told t part ≡ sharesOf (q .metric) (q .expected) (q .covariance) (q .rows) (q .assets) (q .clusters) → t ≡ false → out ≡ zeros len → len ≡ room
+          → (answer.Refused NoData ≡ downAnswer q room) × (out ≡ downWeights q room)
+      unfolding answerOf
+      down-none t part out len g f z l =
+          answered-as (Refused NoData) (Refused NoData) (answer.Refused NoData) out (down-as-shares said-right ∙ table-hit _ _ _ (told-none t part given g f)) refl refl (z ∙ ap zeros l ∙ laid-refused pz (Refused NoData) NoData room (weightsIn given) refl)
+
+      -- weights in the front of a cleared buffer
+      pub down-some : (t : Bool) (part blank out : List Float) (a : Answer) → told t part ≡ sharesOf (q .metric) (q .expected) (q .covariance) (q .rows) (q .assets) (q .clusters) → t ≡ true
+          → a ≡ answerOf said 1 (q .assets) → blank ≡ zeros room → out ≡ part ++ drop (q .assets) blank → length part ≡ q .assets → (a ≡ downAnswer q room) × (out ≡ downWeights q room)
+      down-some t part blank out a g f k b o l =
+          let w = told-some t part given g f in
+          answered-as said Done a out (down-as-shares said-right ∙ table-pass _ _ _ (w .0) ∙ table-end) h k
+          (o ∙ laid-front (q .assets) room part blank b l ∙ ap (laid pz Done room) (sym (w .1)))
+
+-- ---- what `share` is lent: the front of a cleared buffer
+
+take-zeros : (n m : ℕ) → n ≤ m → take n (zeros m) ≡ zeros n
+take-zeros n m h =
+    let z = length-replicate m pz in
+    let e = length-take-le n (zeros m) (omega arith) in
+    ext-getD pz (take n (zeros m)) (zeros n) (e ∙ sym (length-replicate n pz))
+    (λ i l. let lt : i < n = omega arith in rw (getD-take n (zeros m) i pz lt) (getD-replicate m i pz pz (omega arith) ∙ sym (getD-replicate n i pz pz lt)))
+
+pub front-zeros : (blank : List Float) (n room : ℕ) → blank ≡ zeros room → n ≤ room → take n blank ≡ zeros n
+front-zeros blank n room e h = rw e (take-zeros n room h)
+
+module _ (q : Call) (room : ℕ) (p : Right q room) (blank : List Float) (e : blank ≡ zeros room) where
+  blank-length : length blank ≡ room
+  blank-length = ap length e ∙ length-replicate room pz
+
+  pub front-fits : q .assets ≤ length blank
+  front-fits = omega (arith, blank-length, p .fits)
+
+  pub front-length : length (take (q .assets) blank) ≡ q .assets
+  front-length = length-take-le (q .assets) blank front-fits
+
+  pub down-start : Down (q .metric) (q .expected) (q .rows) (q .assets) (q .clusters) (2 * q .assets - 2) (take (q .assets) blank)
+  unfolding isSharpe
+  down-start = record {
+    node = record { on = record { some = p .some; tree = p .tree; node = le-refl (2 * q .assets - 2) }; most = p .most };
+    cut = p .cut;
+    each = omega (arith, front-length);
+    expects = λ h. p .expects (ap isSharpe h) .1;
+  }
+
+  pub down-shared : (s : Shares) → s ≡ allottedAt (q .metric) (q .expected) (q .covariance) (q .rows) (q .assets) (q .clusters) (2 * q .assets - 2) unit (take (q .assets) blank)
+      → s ≡ sharesOf (q .metric) (q .expected) (q .covariance) (q .rows) (q .assets) (q .clusters)
+  unfolding sharesOf
+  down-shared s h = h ∙ ap (allottedAt (q .metric) (q .expected) (q .covariance) (q .rows) (q .assets) (q .clusters) (2 * q .assets - 2) unit) (front-zeros blank (q .assets) room e (p .fits))
+
+  pub part-length : (part : List Float) → length part ≡ length (take (q .assets) blank) → length part ≡ q .assets
+  part-length part h = h ∙ front-length
+
+  pub whole-length : (part : List Float) → length part ≡ length (take (q .assets) blank) → length (part ++ drop (q .assets) blank) ≡ room
+  whole-length part h = simp (length-append, length-drop) (omega (arith, part-length part h, blank-length, p .fits))
+
+-- ---- the lines as `judge` has them, the last one first
+
+module _ (q : Call) (room : ℕ) where
+  pub judge-said : (sharpe missing wrong unexpected other no-count tree misfit big : Bool) (a b c d e f g h i j : Outcome)
+      → sharpe ≡ isSharpe (q .metric)
+      → missing ≡ (sharpe && not (q .expected-given))
+      → wrong ≡ (q .expected-given && not (eqb (length (q .expected)) (q .assets)))
+      → unexpected ≡ (sharpe && wrong)
+      → other ≡ (not (eqb (q .covariance-rows) (q .assets)) || not (eqb (q .covariance-columns) (q .assets)))
+      → no-count ≡ (eqb (q .clusters) 0 || ltb (q .assets) (q .clusters))
+      → tree ≡ isTree (q .rows) (q .assets)
+      → misfit ≡ otherLength (length (q .covariance)) (q .covariance-rows) (q .covariance-columns)
+      → big ≡ overLimit (q .covariance-rows) (q .covariance-columns)
+      → a ≡ orElse no-count (InvalidNumClusters (q .clusters) (q .assets)) Done
+      → b ≡ orElse missing MissingExpectedReturnsForSharpe a
+      → c ≡ orElse (not tree) NoTree b
+      → d ≡ orElse (eqb (q .assets) 0) NoData c
+      → e ≡ orElse unexpected DimensionMismatch d
+      → f ≡ orElse other DimensionMismatch e
+      → g ≡ orElse (ltb room (q .assets)) ShortBuffer f
+      → h ≡ orElse misfit SliceLength g
+      → i ≡ orElse big OverLimit h
+      → j ≡ orElse (ltb 64 (q .assets)) OverLimit i
+      → j ≡ first (callTable q room)
+  unfolding callTable
+  judge-said sharpe missing wrong unexpected other no-count tree misfit big a b c d e f g h i j p1 p2 p3 p4 p5 p6 p7 p8 p9 l1 l2 l3 l4 l5 l6 l7 l8 l9 l10 =
+      simp (table, table-end) (rw (l10, l9, l8, l7, l6, l5, l4, l3, l2, l1, p9, p8, p7, p6, p5, p4, p3, p2, p1))

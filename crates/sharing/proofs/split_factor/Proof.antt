@@ -1,0 +1,51 @@
+-- `sharing::split_factor` meets its contract. Assumes nothing.
+use mathlib.Core.Path.{sym, _∙_}
+use Rattle.sharing.proofs.Laws.{left-none, right-none, both-fine}
+use borrow.Author.Needs.{needs}
+use Rattle.sharing.proofs.split_factor.Statement.{statement}
+use Rattle.sharing.proofs.split_factor.Tie as tie
+
+cluster-variance-requires : tie.Need-cluster-variance-requires
+cluster-variance-requires c κs = search needs
+
+cluster-variance-requires-2 : tie.Need-cluster-variance-requires-2
+cluster-variance-requires-2 c κs = search needs
+
+enum-known-a : tie.Need-enum-known-a
+enum-known-a c = search needs
+
+enum-known-a-2 : tie.Need-enum-known-a-2
+enum-known-a-2 c = search needs
+
+enum-known-b : tie.Need-enum-known-b
+enum-known-b c = search needs
+
+enum-known-b-2 : tie.Need-enum-known-b-2
+enum-known-b-2 c = search needs
+
+score-requires : tie.Need-score-requires
+score-requires c κs = (c .before .before .before .before .before .before .before .before .before .before .before .before .pre, (sym (c .before .before .before .before .before .before .before .cluster-variance .ensures) ∙ c .before .before .before .before .a2 .given .1, sym (c .before .before .before .before .before .before .cluster-variance2 .ensures) ∙ c .before .b2 .given .1))
+
+returns : tie.Need-returns
+returns c = left-none _ _ _ _ _ _ _ (sym (c .before .before .before .before .cluster-variance .ensures) ∙ c .before .a .given .1)
+
+returns-2 : tie.Need-returns-2
+returns-2 c = right-none _ _ _ _ _ _ _ _ (sym (c .before .before .before .before .before .before .before .cluster-variance .ensures) ∙ c .before .before .before .before .a2 .given .1) (sym (c .before .before .before .before .before .before .cluster-variance2 .ensures) ∙ c .before .b .given .1)
+
+returns-3 : tie.Need-returns-3
+returns-3 c = both-fine _ _ _ _ _ _ _ _ _ (sym (c .before .before .before .before .before .before .before .before .cluster-variance .ensures) ∙ c .before .before .before .before .before .a2 .given .1) (sym (c .before .before .before .before .before .before .before .cluster-variance2 .ensures) ∙ c .before .before .b2 .given .1) (c .score .ensures)
+
+pub split-factor-spec : {M : Type 1} → statement M
+split-factor-spec =
+    tie.close
+    (tie.spec
+    cluster-variance-requires
+    cluster-variance-requires-2
+    enum-known-a
+    enum-known-a-2
+    enum-known-b
+    enum-known-b-2
+    score-requires
+    returns
+    returns-2
+    returns-3)

@@ -1,0 +1,5 @@
+pub mod Names
+pub mod Split
+pub mod Allot
+pub mod Down
+pub mod Walk

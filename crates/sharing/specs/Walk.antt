@@ -1,0 +1,34 @@
+-- What the private functions that walk down a tree, and deal out a weight, ask and promise. Definitions only.
+use Prim.Native.Nat.{ℕ, _-_, _≤_, _<_}
+use mathlib.Core.Path.{_≡_}
+use mathlib.Core.List.{List}
+use lib.ListN.{length, take}
+use lib.Ieee.{Float}
+use Rattle.lent.specs.Lent.{most-assets}
+use Rattle.clusters.specs.Clusters.{nth}
+use Rattle.tree.specs.Tree.{leavesOf}
+use Rattle.tree.specs.Walk.{OnTree}
+use Rattle.sharing.specs.declared.Metric.{Metric}
+use Rattle.sharing.specs.declared.Metric.the-variants.{SharpeRatio}
+
+-- a node of a tree of at most 64 assets
+pub record Below (rows : List ℕ) (n v : ℕ) : Type 0 where
+  pub on : OnTree rows n v
+  pub most : n ≤ most-assets
+
+-- the node's leaves stand at the front, r of them
+pub record Front (rows : List ℕ) (n v : ℕ) (after : List ℕ) (r : ℕ) : Type 0 where
+  pub few : r ≤ most-assets
+  pub list : take r after ≡ leavesOf rows n v
+
+-- at most 64 members, each with a weight of its own among m
+pub record Dealt (members : List ℕ) (m : ℕ) : Type 0 where
+  pub few : length members ≤ most-assets
+  pub each : (j : ℕ) → j < length members → nth members j < m
+
+-- what the recursion asks: a node, at most n clusters, a weight for each asset, and an expected return for each under Sharpe
+pub record Down (metric : Metric) (expected : List Float) (rows : List ℕ) (n k v : ℕ) (ws : List Float) : Type 0 where
+  pub node : Below rows n v
+  pub cut : k ≤ n
+  pub each : n ≤ length ws
+  pub expects : metric ≡ SharpeRatio → length expected ≡ n

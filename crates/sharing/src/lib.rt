@@ -1,0 +1,487 @@
+// Sharing a weight out down a tree of merge rows, as HCAA does.
+
+use clusters::Risk;
+use lent::Answer;
+use refusal::Outcome;
+use refusal::Refusal;
+use tree::Asset;
+use tree::Node;
+ghost use mathlib.Core.Path.{_≡_};
+ghost use mathlib.Core.Bool.{_&&_, _||_};
+ghost use Prim.Native.Nat.{ℕ, _≤_, _<_};
+ghost use lib.ListN.{length, getD, set};
+ghost use Rattle.refusal.specs.Table.{first};
+ghost use Rattle.tree.specs.Tree.{leavesOf};
+ghost use Rattle.clusters.specs.Clusters.{varianceAnswer, expectation, ratio};
+ghost use Rattle.clusters.specs.Shares.{told};
+ghost use Rattle.clusters.specs.declared.Risk.the-variants as risk;
+ghost use Rattle.sharing.specs.declared.Metric.the-variants.{SharpeRatio};
+ghost use Rattle.sharing.specs.Names.{metricNamed};
+ghost use Rattle.sharing.specs.Split.{bounded, splitBy, byRisk, byRatio, scored, splitOf};
+ghost use Rattle.sharing.specs.Allot.{spreadOf, equalOf, dealTo, variedOf, insideOf, allottedAt};
+ghost use Rattle.sharing.specs.Down.{isSharpe, callTable, downAnswer, downWeights, call};
+ghost use Rattle.sharing.specs.Walk.{Below, Front, Dealt, Down};
+
+// How a node's weight is shared between its two children.
+pub enum Metric {
+    MinimumVariance,
+    MinimumStandardDeviation,
+    SharpeRatio,
+    EqualWeighting,
+}
+
+// A split keeps the two sides' risks and the left side's factor together.
+pub struct Split {
+    pub left: f64,
+    pub right: f64,
+    pub factor: f64,
+}
+
+// A split, or the refusal of a side.
+pub enum Splitting {
+    By(Split),
+    Refused(Refusal),
+}
+
+pub enum NamedMetric {
+    Of(Metric),
+    Refused(Refusal),
+}
+
+const EPSILON: f64 = 2.220446049250313e-16;
+
+pub fn metric_named(name: &[u8]) -> NamedMetric
+    ensures { λ r. ⌜ r ≡ metricNamed (now (name .entry)) ⌝ }
+{
+    if text::same(name, b"minimum_variance") {
+        return NamedMetric::Of(Metric::MinimumVariance);
+    }
+    if text::same(name, b"minimum_standard_deviation") {
+        return NamedMetric::Of(Metric::MinimumStandardDeviation);
+    }
+    if text::same(name, b"sharpe_ratio") {
+        return NamedMetric::Of(Metric::SharpeRatio);
+    }
+    if text::same(name, b"equal_weighting") {
+        return NamedMetric::Of(Metric::EqualWeighting);
+    }
+    if text::same(name, b"expected_shortfall") {
+        return NamedMetric::Refused(Refusal::TailRiskMetric);
+    }
+    if text::same(name, b"conditional_drawdown_risk") {
+        return NamedMetric::Refused(Refusal::TailRiskMetric);
+    }
+    NamedMetric::Refused(Refusal::UnknownAllocationMetric)
+}
+
+// As calls, these leave no branch where they stand.
+fn both(x: bool, y: bool) -> bool
+    ensures { λ r. ⌜ r ≡ (x && y) ⌝ }
+{
+    if x { y } else { false }
+}
+
+fn either(x: bool, y: bool) -> bool
+    ensures { λ r. ⌜ r ≡ (x || y) ⌝ }
+{
+    if x { true } else { y }
+}
+
+// A factor that is not finite is a half.
+fn bounded(f: f64) -> f64
+    ensures { λ r. ⌜ r ≡ bounded f ⌝ }
+{
+    if arithmetic::is_finite(f) {
+        arithmetic::clamp(f, 0.0, 1.0)
+    } else {
+        0.5
+    }
+}
+
+fn split_by(left: f64, right: f64, f: f64) -> Split
+    ensures { λ r. ⌜ r ≡ splitBy left right f ⌝ }
+{
+    let factor = bounded(f);
+    Split {
+        left,
+        right,
+        factor,
+    }
+}
+
+fn by_risk(l: f64, r: f64) -> Split
+    ensures { λ s. ⌜ s ≡ byRisk l r ⌝ }
+{
+    split_by(l, r, 1.0 - l / (l + r + EPSILON))
+}
+
+// s and t are the ratios, l and r the variances.
+fn by_ratio(s: f64, t: f64, l: f64, r: f64) -> Split
+    ensures { λ o. ⌜ o ≡ byRatio s t l r ⌝ }
+{
+    let fair = both(both(0.0 <= s, 0.0 <= t), 0.0 < s + t);
+    if fair {
+        return split_by(s, t, s / (s + t));
+    }
+    by_risk(l, r)
+}
+
+// The ratio of a side whose variance is v, and so is not refused.
+fn ratio_of(expected: &[f64], cov: &[f64], n: usize, side: &[usize], v: f64) -> f64
+    requires { ⌜ length (now expected) ≡ n ⌝ }
+    requires { ⌜ varianceAnswer (now cov) n n (now side) ≡ risk.Of v ⌝ }
+    ensures { λ r. ⌜ r ≡ ratio (expectation (now (expected .entry)) (now (cov .entry)) n (now (side .entry))) v ⌝ }
+{
+    match clusters::cluster_sharpe(expected, cov, n, n, side) {
+        Risk::Of(x) => x,
+        Risk::Refused(_) => 0.0,
+    }
+}
+
+// The split of two sides whose variances are l and r.
+fn score(
+    metric: Metric,
+    expected: &[f64],
+    cov: &[f64],
+    n: usize,
+    left: &[usize],
+    right: &[usize],
+    l: f64,
+    r: f64,
+) -> Split
+    requires { ⌜ (metric ≡ SharpeRatio → length (now expected) ≡ n) ⌝ }
+    requires { ⌜ varianceAnswer (now cov) n n (now left) ≡ risk.Of l ⌝ }
+    requires { ⌜ varianceAnswer (now cov) n n (now right) ≡ risk.Of r ⌝ }
+    ensures { λ s. ⌜ s ≡ scored metric (now (expected .entry)) (now (cov .entry)) n (now (left .entry)) (now (right .entry)) l r ⌝ }
+{
+    match metric {
+        Metric::MinimumVariance => by_risk(l, r),
+        Metric::MinimumStandardDeviation => by_risk(arithmetic::sqrt(l), arithmetic::sqrt(r)),
+        Metric::SharpeRatio => {
+            let s = ratio_of(expected, cov, n, left, l);
+            let t = ratio_of(expected, cov, n, right, r);
+            by_ratio(s, t, l, r)
+        }
+        Metric::EqualWeighting => split_by(l, r, 0.5),
+    }
+}
+
+// Both variances come first, whatever the metric.
+fn split_factor(
+    metric: Metric,
+    expected: &[f64],
+    cov: &[f64],
+    n: usize,
+    left: &[usize],
+    right: &[usize],
+) -> Splitting
+    requires { ⌜ (metric ≡ SharpeRatio → length (now expected) ≡ n) ⌝ }
+    ensures { λ s. ⌜ s ≡ splitOf metric (now (expected .entry)) (now (cov .entry)) n (now (left .entry)) (now (right .entry)) ⌝ }
+{
+    let a = clusters::cluster_variance(cov, n, n, left);
+    let b = clusters::cluster_variance(cov, n, n, right);
+    match a {
+        Risk::Refused(k) => Splitting::Refused(k),
+        Risk::Of(l) => match b {
+            Risk::Refused(k) => Splitting::Refused(k),
+            Risk::Of(r) => { Splitting::By(score(metric, expected, cov, n, left, right, l, r)) }
+        },
+    }
+}
+
+// Writes the leaves below a node to the front of out, and says how many there are.
+fn leaves(rows: &[usize], n: usize, node: Node, out: &mut [usize]) -> usize
+    requires { ⌜ Below (now rows) n (node .0) ⌝ }
+    requires { ⌜ length (now out) ≡ 64 ⌝ }
+    ensures { λ r. ⌜ Front (now (rows .entry)) n (node .0) (now (out .exit)) r ⌝ }
+{
+    match tree::quasi_diagonalization(rows, n, node, out) {
+        Answer::Matrix { rows: _, columns } => columns,
+        Answer::Refused(_) => 0,
+    }
+}
+
+// The split between the leaves of two nodes.
+fn split_at(
+    metric: Metric,
+    expected: &[f64],
+    cov: &[f64],
+    rows: &[usize],
+    n: usize,
+    a: Node,
+    b: Node,
+) -> Splitting
+    requires { ⌜ (metric ≡ SharpeRatio → length (now expected) ≡ n) ⌝ }
+    requires { ⌜ Below (now rows) n (a .0) ⌝ }
+    requires { ⌜ Below (now rows) n (b .0) ⌝ }
+    ensures { λ s. ⌜ s ≡ splitOf metric (now (expected .entry)) (now (cov .entry)) n (leavesOf (now (rows .entry)) n (a .0)) (leavesOf (now (rows .entry)) n (b .0)) ⌝ }
+{
+    let mut left = [0usize; 64];
+    let l = leaves(rows, n, a, &mut left);
+    let mut right = [0usize; 64];
+    let r = leaves(rows, n, b, &mut right);
+    split_factor(metric, expected, cov, n, &left[..l], &right[..r])
+}
+
+// Gives an asset its weight.
+fn give(asset: Asset, w: f64, weights: &mut [f64])
+    requires { ⌜ asset .0 < length (now weights) ⌝ }
+    ensures { λ _. ⌜ now (weights .exit) ≡ set (now (weights .entry)) (asset .0) w ⌝ }
+{
+    let at = asset.0;
+    weights[at] = arithmetic::settled(w);
+}
+
+// The same weight to each of the assets listed.
+fn spread(members: &[usize], w: f64, weights: &mut [f64])
+    requires { ⌜ Dealt (now members) (length (now weights)) ⌝ }
+    ensures { λ _. ⌜ now (weights .exit) ≡ spreadOf (now (members .entry)) w (now (weights .entry)) ⌝ }
+{
+    let mut i: usize = 0;
+    while i < members.len() {
+        give(Asset(members[i]), w, weights);
+        i += 1;
+    }
+}
+
+// To each of the assets listed its part of the weight.
+fn deal(members: &[usize], parts: &[f64; 64], weight: f64, weights: &mut [f64])
+    requires { ⌜ Dealt (now members) (length (now weights)) ⌝ }
+    ensures { λ _. ⌜ now (weights .exit) ≡ dealTo (length (now (members .entry))) (now (members .entry)) (now (parts .entry)) weight (now (weights .entry)) ⌝ }
+{
+    let mut i: usize = 0;
+    while i < members.len() {
+        give(Asset(members[i]), weight * parts[i], weights);
+        i += 1;
+    }
+}
+
+// By inverse variance; false where the cluster's variances are refused.
+fn deal_by_variance(
+    cov: &[f64],
+    n: usize,
+    members: &[usize],
+    weight: f64,
+    weights: &mut [f64],
+) -> bool
+    requires { ⌜ Dealt (now members) (length (now weights)) ⌝ }
+    ensures { λ r. ⌜ told r (now (weights .exit)) ≡ variedOf (now (cov .entry)) n (now (members .entry)) weight (now (weights .entry)) ⌝ }
+{
+    let mut parts = [0.0; 64];
+    let Answer::Matrix {
+        rows: _,
+        columns: _,
+    } = clusters::inverse_variance_weights(cov, n, n, members, &mut parts)
+    else {
+        return false;
+    };
+    deal(members, &parts, weight, weights);
+    true
+}
+
+// In equal parts.
+fn deal_equally(members: &[usize], weight: f64, weights: &mut [f64])
+    requires { ⌜ Dealt (now members) (length (now weights)) ⌝ }
+    ensures { λ _. ⌜ now (weights .exit) ≡ equalOf (now (members .entry)) weight (now (weights .entry)) ⌝ }
+{
+    spread(
+        members,
+        weight * arithmetic::one_over(members.len()),
+        weights,
+    );
+}
+
+// A cut cluster's weight goes to its assets; false where they are refused.
+fn inside(
+    metric: Metric,
+    cov: &[f64],
+    n: usize,
+    members: &[usize],
+    weight: f64,
+    weights: &mut [f64],
+) -> bool
+    requires { ⌜ Dealt (now members) (length (now weights)) ⌝ }
+    ensures { λ r. ⌜ told r (now (weights .exit)) ≡ insideOf metric (now (cov .entry)) n (now (members .entry)) weight (now (weights .entry)) ⌝ }
+{
+    match metric {
+        Metric::MinimumVariance => deal_by_variance(cov, n, members, weight, weights),
+        Metric::MinimumStandardDeviation => deal_by_variance(cov, n, members, weight, weights),
+        Metric::SharpeRatio => deal_by_variance(cov, n, members, weight, weights),
+        Metric::EqualWeighting => {
+            deal_equally(members, weight, weights);
+            true
+        }
+    }
+}
+
+// A cut node: its leaves are one cluster.
+fn cluster(
+    metric: Metric,
+    cov: &[f64],
+    rows: &[usize],
+    n: usize,
+    node: Node,
+    weight: f64,
+    weights: &mut [f64],
+) -> bool
+    requires { ⌜ Below (now rows) n (node .0) ⌝ }
+    requires { ⌜ n ≤ length (now weights) ⌝ }
+    ensures { λ r. ⌜ told r (now (weights .exit)) ≡ insideOf metric (now (cov .entry)) n (leavesOf (now (rows .entry)) n (node .0)) weight (now (weights .entry)) ⌝ }
+{
+    let mut members = [0usize; 64];
+    let m = leaves(rows, n, node, &mut members);
+    inside(metric, cov, n, &members[..m], weight, weights)
+}
+
+// Shares a weight out below a node; false where a side, or a cut cluster, is refused.
+fn share(
+    metric: Metric,
+    expected: &[f64],
+    cov: &[f64],
+    rows: &[usize],
+    n: usize,
+    clusters: usize,
+    node: Node,
+    weight: f64,
+    weights: &mut [f64],
+) -> bool
+    requires { ⌜ Down metric (now expected) (now rows) n clusters (node .0) (now weights) ⌝ }
+    ensures { λ r. ⌜ told r (now (weights .exit)) ≡ allottedAt metric (now (expected .entry)) (now (cov .entry)) (now (rows .entry)) n clusters (node .0) weight (now (weights .entry)) ⌝ }
+{
+    let at = node.0;
+    if at < n {
+        give(Asset(at), weight, weights);
+        return true;
+    }
+    let k = at - n;
+    if k + clusters < n {
+        return cluster(metric, cov, rows, n, node, weight, weights);
+    }
+    let a = rows[2 * k];
+    let b = rows[2 * k + 1];
+    let Splitting::By(s) = split_at(metric, expected, cov, rows, n, Node(a), Node(b)) else {
+        return false;
+    };
+    let f = s.factor;
+    if !share(
+        metric,
+        expected,
+        cov,
+        rows,
+        n,
+        clusters,
+        Node(a),
+        weight * f,
+        weights,
+    ) {
+        return false;
+    }
+    share(
+        metric,
+        expected,
+        cov,
+        rows,
+        n,
+        clusters,
+        Node(b),
+        weight * (1.0 - f),
+        weights,
+    )
+}
+
+fn is_sharpe(metric: Metric) -> bool
+    ensures { λ r. ⌜ r ≡ isSharpe metric ⌝ }
+{
+    match metric {
+        Metric::MinimumVariance => false,
+        Metric::MinimumStandardDeviation => false,
+        Metric::SharpeRatio => true,
+        Metric::EqualWeighting => false,
+    }
+}
+
+// The refusal, if there is one, that comes before anything is shared out: the last line first.
+fn judge(
+    metric: Metric,
+    expected: &[f64],
+    given: bool,
+    cov: &[f64],
+    height: usize,
+    width: usize,
+    rows: &[usize],
+    n: usize,
+    clusters: usize,
+    room: usize,
+) -> Outcome
+    ensures { λ r. ⌜ r ≡ first (callTable (call metric (now (expected .entry)) given (now (cov .entry)) height width (now (rows .entry)) n clusters) room) ⌝ }
+{
+    let sharpe = is_sharpe(metric);
+    let missing = both(sharpe, !given);
+    let unexpected = both(sharpe, both(given, expected.len() != n));
+    let other_size = either(height != n, width != n);
+    let no_count = either(clusters == 0, n < clusters);
+    let count = Refusal::InvalidNumClusters {
+        requested: clusters,
+        assets: n,
+    };
+    let rest = refusal::refuse(no_count, count, Outcome::Done);
+    let rest = refusal::refuse(missing, Refusal::MissingExpectedReturnsForSharpe, rest);
+    let rest = refusal::refuse(!tree::is_tree(rows, n), Refusal::NoTree, rest);
+    let rest = refusal::refuse(n == 0, Refusal::NoData, rest);
+    let rest = refusal::refuse(unexpected, Refusal::DimensionMismatch, rest);
+    let rest = refusal::refuse(other_size, Refusal::DimensionMismatch, rest);
+    let rest = refusal::refuse(room < n, Refusal::ShortBuffer, rest);
+    let misfit = lent::has_other_length(cov.len(), height, width);
+    let rest = refusal::refuse(misfit, Refusal::SliceLength, rest);
+    let rest = refusal::refuse(lent::over_limit(height, width), Refusal::OverLimit, rest);
+    refusal::refuse(lent::MOST_ASSETS < n, Refusal::OverLimit, rest)
+}
+
+// The weights of n assets, shared out from the last merge row's node down.
+pub fn allocate_down_tree(
+    metric: Metric,
+    expected: &[f64],
+    expected_given: bool,
+    covariance: &[f64],
+    covariance_rows: usize,
+    covariance_columns: usize,
+    rows: &[usize],
+    n: usize,
+    clusters: usize,
+    out: &mut [f64],
+) -> Answer
+    ensures { λ r. ⌜ r ≡ downAnswer (call metric (now (expected .entry)) «expected_given» (now (covariance .entry)) «covariance_rows» «covariance_columns» (now (rows .entry)) n clusters) (length (now (out .entry))) ⌝ }
+    ensures { λ r. ⌜ now (out .exit) ≡ downWeights (call metric (now (expected .entry)) «expected_given» (now (covariance .entry)) «covariance_rows» «covariance_columns» (now (rows .entry)) n clusters) (length (now (out .entry))) ⌝ }
+{
+    let said = judge(
+        metric,
+        expected,
+        expected_given,
+        covariance,
+        covariance_rows,
+        covariance_columns,
+        rows,
+        n,
+        clusters,
+        out.len(),
+    );
+    lent::clear(out);
+    let Outcome::Done = said else {
+        return lent::answered(said, 1, n);
+    };
+    if !share(
+        metric,
+        expected,
+        covariance,
+        rows,
+        n,
+        clusters,
+        Node(2 * n - 2),
+        1.0,
+        &mut out[..n],
+    ) {
+        lent::clear(out);
+        return Answer::Refused(Refusal::NoData);
+    }
+    lent::answered(said, 1, n)
+}
