@@ -1,0 +1,34 @@
+-- `parity::judge` meets its contract. Assumes nothing.
+use borrow.Author.Needs.{needs}
+use Rattle.parity.proofs.Answers.{judge-said}
+use Rattle.parity.proofs.judge.Statement.{statement}
+use Rattle.parity.proofs.judge.Tie as tie
+
+sized-requires : tie.Need-sized-requires
+sized-requires c κs = search needs
+
+judge-rooms-requires : tie.Need-judge-rooms-requires
+judge-rooms-requires c κs = search needs
+
+judge-shape-requires : tie.Need-judge-shape-requires
+judge-shape-requires c κs = search needs
+
+then-requires : tie.Need-then-requires
+then-requires c κs = search needs
+
+then-requires-2 : tie.Need-then-requires-2
+then-requires-2 c κs = search needs
+
+returns : tie.Need-returns
+returns c = judge-said _ _ _ _ _ _ _ _ _ (c .before .before .before .before .sized .ensures) (c .before .before .before .judge-rooms .ensures) (c .before .before .judge-shape .ensures) (c .before .then .ensures) (c .then2 .ensures)
+
+pub judge-spec : {M : Type 1} → statement M
+judge-spec =
+    tie.close
+    (tie.spec
+    sized-requires
+    judge-rooms-requires
+    judge-shape-requires
+    then-requires
+    then-requires-2
+    returns)

@@ -1,0 +1,22 @@
+-- `parity::told` meets its contract. Assumes nothing.
+use borrow.Author.Needs.{needs}
+use Rattle.parity.specs.Steps.{outcomeOf}
+use Rattle.parity.proofs.told.Statement.{statement}
+use Rattle.parity.proofs.told.Tie as tie
+
+enum-told : tie.Need-enum-told
+enum-told c = search needs
+
+enum-known-answer : tie.Need-enum-known-answer
+enum-known-answer c = search needs
+
+returns : tie.Need-returns
+unfolding outcomeOf
+returns c = search needs
+
+returns-2 : tie.Need-returns-2
+unfolding outcomeOf
+returns-2 c = rw (c .before .answer .given .1)
+
+pub told-spec : {M : Type 1} → statement M
+told-spec = tie.close (tie.spec enum-told enum-known-answer returns returns-2)
