@@ -86,7 +86,7 @@ pub fn judge_matrices(
     refusal::refuse(lent::MOST_ASSETS < n, Refusal::OverLimit, o)
 }
 
-// The same by way of `sampled`, which holds any matrix.
+// The returns of prices, sampled first into `sampled`, which holds any matrix.
 fn difference(
     sampled: &mut [f64],
     prices: &[f64],
@@ -112,7 +112,7 @@ fn difference(
     resample::returns_from_prices(&sampled[..cells], kept, columns, out)
 }
 
-// The returns of prices that are sampled first.
+// The same, with room for the sample.
 pub fn sampled_returns(
     prices: &[f64],
     rows: usize,

@@ -3,8 +3,8 @@
 use crate::{hcaa_open, hrp_open};
 use nalgebra::DMatrix;
 
-pub use crate::hcaa_open::door::{exponential_expected_returns, mean_expected_returns};
-pub use crate::hrp_open::door::{seriate_matrix, shrink_covariance};
+pub use crate::hcaa_open::door::{cluster_sharpe, exponential_expected_returns, mean_expected_returns};
+pub use crate::hrp_open::door::{recursive_bisection_min_var, seriate_matrix, shrink_covariance};
 
 type Answer = Result<DMatrix<f64>, u8>;
 
@@ -78,4 +78,68 @@ pub fn linkage_children(distance: &DMatrix<f64>, method: Linkage) -> Vec<[usize;
 
 pub fn quasi_diagonalization(n: usize, rows: &[[usize; 2]], node: usize) -> Vec<usize> {
     crate::util::linkage::quasi_diagonalization(n, rows, node)
+}
+
+fn row(cells: Vec<f64>) -> DMatrix<f64> {
+    DMatrix::from_row_slice(1, cells.len(), &cells)
+}
+
+/// One row.
+pub fn inverse_variance_weights(cov: &DMatrix<f64>, assets: &[usize]) -> Answer {
+    let mine = hrp_open::door::inverse_variance_weights(cov, assets).map(row);
+    agreed(mine, hcaa_open::door::inverse_variance_weights(cov, assets).map(row))
+}
+
+/// One cell.
+pub fn cluster_variance(cov: &DMatrix<f64>, assets: &[usize]) -> Answer {
+    let mine = hrp_open::door::cluster_variance(cov, assets).map(|v| row(vec![v]));
+    agreed(mine, hcaa_open::door::cluster_variance(cov, assets).map(|v| row(vec![v])))
+}
+
+#[derive(Clone, Copy, PartialEq)]
+pub enum Distance {
+    Correlation,
+    DistanceOfDistances,
+}
+
+/// What HRP's public call is handed, and with which distance its allocator was made.
+pub struct Account<'a> {
+    pub assets: usize,
+    pub prices: Option<&'a DMatrix<f64>>,
+    pub returns: Option<&'a DMatrix<f64>>,
+    pub covariance: Option<&'a DMatrix<f64>>,
+    pub resample_by: Option<&'a str>,
+    pub use_shrinkage: bool,
+    pub distance: Distance,
+}
+
+/// What it leaves in the allocator's public fields.
+pub struct Allocation {
+    pub rows: Vec<usize>,
+    pub order: Vec<usize>,
+    pub weights: Vec<f64>,
+    pub correlations: DMatrix<f64>,
+    pub distances: DMatrix<f64>,
+}
+
+pub fn hrp_allocate(account: &Account) -> Result<Allocation, u8> {
+    use crate::hrp::{HierarchicalRiskParity, HrpDistance, HrpError};
+    let mut model = HierarchicalRiskParity::with_distance(match account.distance {
+        Distance::Correlation => HrpDistance::Correlation,
+        Distance::DistanceOfDistances => HrpDistance::DistanceOfDistances,
+    });
+    let names: Vec<String> = (0..account.assets).map(|i| i.to_string()).collect();
+    let said = model.allocate(&names, account.prices, account.returns, account.covariance, account.resample_by, account.use_shrinkage);
+    said.map_err(|e| match e {
+        HrpError::NoData => 1,
+        HrpError::DimensionMismatch(_) => 3,
+        other => panic!("allocate gives no {other}"),
+    })?;
+    Ok(Allocation {
+        rows: model.clusters.concat(),
+        order: model.ordered_indices,
+        weights: model.weights,
+        correlations: model.seriated_correlations.expect("correlations"),
+        distances: model.seriated_distances.expect("distances"),
+    })
 }

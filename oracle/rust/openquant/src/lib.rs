@@ -50,6 +50,18 @@ mod hrp_open {
         pub fn seriate_matrix(matrix: &DMatrix<f64>, order: &[usize]) -> DMatrix<f64> {
             super::seriate_matrix(matrix, order)
         }
+
+        pub fn inverse_variance_weights(cov: &DMatrix<f64>, assets: &[usize]) -> Result<Vec<f64>, u8> {
+            super::inverse_variance_weights(cov, assets).map_err(number)
+        }
+
+        pub fn cluster_variance(cov: &DMatrix<f64>, assets: &[usize]) -> Result<f64, u8> {
+            super::cluster_variance(cov, assets).map_err(number)
+        }
+
+        pub fn recursive_bisection_min_var(cov: &DMatrix<f64>, order: &[usize]) -> Result<Vec<f64>, u8> {
+            super::recursive_bisection_min_var(cov, order).map_err(number)
+        }
     }
 }
 
@@ -90,6 +102,18 @@ mod hcaa_open {
 
         pub fn corr_to_distances(corr: &DMatrix<f64>) -> DMatrix<f64> {
             super::corr_to_distances(corr)
+        }
+
+        pub fn inverse_variance_weights(cov: &DMatrix<f64>, assets: &[usize]) -> Result<Vec<f64>, u8> {
+            super::inverse_variance_weights(cov, assets).map_err(number)
+        }
+
+        pub fn cluster_variance(cov: &DMatrix<f64>, assets: &[usize]) -> Result<f64, u8> {
+            super::cluster_variance(cov, assets).map_err(number)
+        }
+
+        pub fn cluster_sharpe(expected: &[f64], cov: &DMatrix<f64>, assets: &[usize]) -> Result<f64, u8> {
+            super::cluster_sharpe(expected, cov, assets).map_err(number)
         }
     }
 }

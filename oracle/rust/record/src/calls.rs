@@ -86,7 +86,7 @@ fn row(cells: Vec<f64>) -> DMatrix<f64> {
     DMatrix::from_row_slice(1, cells.len(), &cells)
 }
 
-fn table(m: &DMatrix<f64>) -> Table {
+pub fn table(m: &DMatrix<f64>) -> Table {
     let cells = (0..m.nrows()).flat_map(|r| (0..m.ncols()).map(move |c| m[(r, c)])).collect();
     Table { rows: m.nrows(), columns: m.ncols(), cells: Cells::Doubles(cells) }
 }
@@ -105,15 +105,15 @@ pub struct Table {
 pub type Answer = Result<Table, u8>;
 
 #[derive(Default)]
-struct Line(String);
+pub struct Line(String);
 
 impl Line {
-    fn number(mut self, n: usize) -> Self {
+    pub fn number(mut self, n: usize) -> Self {
         write!(self.0, "{}{n:x}", if self.0.is_empty() { "" } else { " " }).unwrap();
         self
     }
 
-    fn numbers(self, list: &[usize]) -> Self {
+    pub fn numbers(self, list: &[usize]) -> Self {
         list.iter().fold(self, |line, &n| line.number(n))
     }
 
@@ -125,8 +125,18 @@ impl Line {
     }
 
     /// `len`, and so many doubles.
-    fn cells(self, list: &[f64]) -> Self {
+    pub fn cells(self, list: &[f64]) -> Self {
         self.number(list.len()).doubles(list, f64::to_bits)
+    }
+
+    /// `len`, and so many numbers.
+    pub fn list(self, list: &[usize]) -> Self {
+        self.number(list.len()).numbers(list)
+    }
+
+    /// `len`, and so many doubles of an answer.
+    pub fn answer(self, list: &[f64]) -> Self {
+        self.number(list.len()).doubles(list, settled)
     }
 }
 
@@ -139,7 +149,7 @@ fn settled(x: f64) -> u64 {
     }
 }
 
-fn told(answer: &Answer) -> String {
+fn told(answer: &Answer) -> Line {
     let line = match answer {
         Err(refusal) => Line::default().number(*refusal as usize).number(0).number(0),
         Ok(table) => {
@@ -150,7 +160,7 @@ fn told(answer: &Answer) -> String {
             }
         }
     };
-    line.number(0).0
+    line.number(0)
 }
 
 #[derive(Default)]
@@ -162,11 +172,15 @@ pub struct Record {
 }
 
 impl Record {
-    fn put(&mut self, code: usize, call: Line, answer: &Answer) {
+    pub fn put_lines(&mut self, code: usize, call: Line, answer: Line, done: bool) {
         writeln!(self.calls, "{}", call.0).unwrap();
-        writeln!(self.answers, "{}", told(answer)).unwrap();
+        writeln!(self.answers, "{}", answer.0).unwrap();
         self.counts[code].0 += 1;
-        self.counts[code].1 += answer.is_ok() as usize;
+        self.counts[code].1 += done as usize;
+    }
+
+    pub fn put(&mut self, code: usize, call: Line, answer: &Answer) {
+        self.put_lines(code, call, told(answer), answer.is_ok());
     }
 
     /// A call on one matrix, whatever its sizes.

@@ -4,23 +4,23 @@ use crate::calls::{Answer, Cells, Op, Record};
 use crate::random::{Random, ODD};
 use openquant::api::{Linkage, Measure};
 
-const HUGE: usize = usize::MAX;
+pub const HUGE: usize = usize::MAX;
 
 const METHODS: [Linkage; 4] = [Linkage::Single, Linkage::Complete, Linkage::Average, Linkage::Ward];
 
 const MEASURES: [Measure; 2] = [Measure::Hrp, Measure::Hcaa];
 
-fn filled(count: usize, cell: impl FnMut() -> f64) -> Vec<f64> {
+pub fn filled(count: usize, cell: impl FnMut() -> f64) -> Vec<f64> {
     std::iter::repeat_with(cell).take(count).collect()
 }
 
 /// n by n, each cell by its row and column.
-fn square(n: usize, mut cell: impl FnMut(usize, usize) -> f64) -> Vec<f64> {
+pub fn square(n: usize, mut cell: impl FnMut(usize, usize) -> f64) -> Vec<f64> {
     (0..n * n).map(|k| cell(k / n, k % n)).collect()
 }
 
 /// n by n, the upper triangle by `cell`, copied across, and `diagonal` between.
-fn mirrored(n: usize, diagonal: f64, mut cell: impl FnMut() -> f64) -> Vec<f64> {
+pub fn mirrored(n: usize, diagonal: f64, mut cell: impl FnMut() -> f64) -> Vec<f64> {
     let mut out = vec![diagonal; n * n];
     for i in 0..n {
         for j in i + 1..n {

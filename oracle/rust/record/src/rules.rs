@@ -52,6 +52,58 @@ pub fn order(order: &[usize], n: usize) -> Result<(), u8> {
     }
 }
 
+/// A list of assets of one matrix, and what a call on it answers into or is handed beside it. 9 is over the list too.
+pub fn cluster(rows: usize, columns: usize, len: usize, assets: &[usize], room: Option<usize>, expected: Option<usize>) -> Result<(), u8> {
+    if assets.len() > 64 {
+        return Err(9);
+    }
+    matrix(rows, columns, len, room.unwrap_or(assets.len()), || assets.len(), true)?;
+    // 3: "expected length other than n".
+    if expected.is_some_and(|e| e != columns) {
+        return Err(3);
+    }
+    // 14: "an asset number above n − 1".
+    if assets.iter().any(|&a| a >= columns) {
+        return Err(14);
+    }
+    Ok(())
+}
+
+/// HRP's bisection: "a matrix that must be square and isn't ..; then 14; then as in the allocators", where "no assets" is 1.
+pub fn bisection(rows: usize, columns: usize, len: usize, given: &[usize], room: usize) -> Result<(), u8> {
+    matrix(rows, columns, len, room, || columns, true)?;
+    order(given, columns)?;
+    if columns == 0 {
+        return Err(1);
+    }
+    Ok(())
+}
+
+/// A matrix of an account: its sizes, how many cells were handed over, and whether it is there at all.
+#[derive(Clone, Copy)]
+pub struct Handed {
+    pub given: bool,
+    pub rows: usize,
+    pub columns: usize,
+    pub len: usize,
+}
+
+/// An account's 9 over all counts and given matrices, then 10 over all, then 11 over all six buffers: rows, order, weights, correlations,
+/// distances and scratch.
+pub fn account(assets: usize, matrices: &[Handed; 3], rooms: &[usize; 6]) -> Result<(), u8> {
+    let given = || matrices.iter().filter(|m| m.given);
+    if assets > 64 || given().any(|m| over_limit(m.rows, m.columns)) {
+        return Err(9);
+    }
+    if given().any(|m| m.len != m.rows * m.columns) {
+        return Err(10);
+    }
+    if rooms.iter().zip(need::account(assets)).any(|(&room, need)| room < need) {
+        return Err(11);
+    }
+    Ok(())
+}
+
 /// "Merge rows are a tree when there are n − 1, row k names only ids below n + k, and each id 0 to 2n − 3 occurs once."
 fn is_tree(ids: &[usize], n: usize) -> bool {
     ids.len() == 2 * (n - 1) && ids.iter().enumerate().all(|(i, &id)| id < n + i / 2) && each_once(ids, 2 * (n - 1))
@@ -81,5 +133,10 @@ pub mod need {
 
     pub fn children(columns: usize) -> usize {
         2 * columns.saturating_sub(1)
+    }
+
+    /// "Scratch has under 8,192 doubles."
+    pub fn account(assets: usize) -> [usize; 6] {
+        [children(assets), assets, assets, square(assets), square(assets), 8192]
     }
 }

@@ -1,0 +1,63 @@
+-- `accounts::number` is safe, and ends. Assumes nothing.
+use Prim.Native.Nat.{_-_}
+use lib.ListN.{length}
+use borrow.Author.Needs.{needs}
+use Rattle.accounts.proofs.number.Statement.{statement}
+use Rattle.accounts.proofs.number.Tie as tie
+
+abbrev Inv-loop : tie.InvT-loop
+Inv-loop text at w₀ i₀ w i = Unit {0}
+
+abbrev μ-loop : tie.MeasureT-loop
+μ-loop text at w₀ i₀ w i = length text - i
+
+loop-holds : tie.Need-loop-holds Inv-loop μ-loop
+loop-holds c = search needs
+
+shared-slice-read-if1 : tie.Need-shared-slice-read-if1 Inv-loop μ-loop
+shared-slice-read-if1 c = search needs
+
+returns : tie.Need-returns Inv-loop μ-loop
+returns c = search needs
+
+mul-w : tie.Need-mul-w Inv-loop μ-loop
+mul-w c = search needs
+
+shared-slice-read-worth : tie.Need-shared-slice-read-worth Inv-loop μ-loop
+shared-slice-read-worth c = search needs
+
+worth-requires : tie.Need-worth-requires Inv-loop μ-loop
+worth-requires c κs = search needs
+
+add-w : tie.Need-add-w Inv-loop μ-loop
+add-w c = search needs
+
+add-i : tie.Need-add-i Inv-loop μ-loop
+add-i c = search needs
+
+loop-less : tie.Need-loop-less Inv-loop μ-loop
+loop-less c = search needs
+
+loop-again : tie.Need-loop-again Inv-loop μ-loop
+loop-again c = search needs
+
+returns-2 : tie.Need-returns-2 Inv-loop μ-loop
+returns-2 c = search needs
+
+pub number-spec : {M : Type 1} → statement M
+number-spec =
+    tie.close
+    (tie.spec
+    Inv-loop
+    μ-loop
+    loop-holds
+    shared-slice-read-if1
+    returns
+    mul-w
+    shared-slice-read-worth
+    worth-requires
+    add-w
+    add-i
+    loop-less
+    loop-again
+    returns-2)

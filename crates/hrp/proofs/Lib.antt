@@ -1,0 +1,3 @@
+pub mod Estimates
+pub mod Judged
+pub mod Figures

@@ -1,0 +1,36 @@
+-- `hrp::judge` meets its contract. Assumes nothing.
+use Rattle.hrp.specs.Steps.{judgeTable}
+use Rattle.hrp.proofs.Judged.{staged}
+use borrow.Author.Needs.{needs}
+use Rattle.hrp.proofs.judge.Statement.{statement}
+use Rattle.hrp.proofs.judge.Tie as tie
+
+judge-matrices-requires : tie.Need-judge-matrices-requires
+judge-matrices-requires c κs = search needs
+
+judge-rooms-requires : tie.Need-judge-rooms-requires
+judge-rooms-requires c κs = search needs
+
+judge-shapes-requires : tie.Need-judge-shapes-requires
+judge-shapes-requires c κs = search needs
+
+then-requires : tie.Need-then-requires
+then-requires c κs = search needs
+
+then-requires-2 : tie.Need-then-requires-2
+then-requires-2 c κs = search needs
+
+returns : tie.Need-returns
+unfolding judgeTable
+returns c = staged _ _ _ _ _ _ _ _ (c .before .before .before .before .judge-matrices .ensures) (c .before .before .before .judge-rooms .ensures) (c .before .before .judge-shapes .ensures) (c .before .then .ensures) (c .then2 .ensures)
+
+pub judge-spec : {M : Type 1} → statement M
+judge-spec =
+    tie.close
+    (tie.spec
+    judge-matrices-requires
+    judge-rooms-requires
+    judge-shapes-requires
+    then-requires
+    then-requires-2
+    returns)

@@ -1,0 +1,57 @@
+-- `hrp::prepare` meets its contract. Assumes nothing.
+use mathlib.Core.Path.{refl}
+use Rattle.hrp.proofs.Estimates.{from-returns, from-prices, returns-sized, prices-sized}
+use borrow.Author.Needs.{needs}
+use Rattle.hrp.proofs.prepare.Statement.{statement}
+use Rattle.hrp.proofs.prepare.Tie as tie
+
+enum-known-returns-shape : tie.Need-enum-known-returns-shape
+enum-known-returns-shape c = search needs
+
+estimate-requires : tie.Need-estimate-requires
+estimate-requires c κs =
+    let s = c .before .before .before .before .before .before .before .before .pre in
+    (returns-sized _ _ _ _ _ _ _ _ _ (c .before .before .returns-shape .given .1) (s .0), s .1)
+
+enum-told : tie.Need-enum-told
+enum-told c = search needs
+
+rows-in-requires : tie.Need-rows-in-requires
+rows-in-requires c κs = search needs
+
+slice-aggregate-estimate-from-prices : tie.Need-slice-aggregate-estimate-from-prices
+slice-aggregate-estimate-from-prices c = search needs
+
+estimate-from-prices-requires : tie.Need-estimate-from-prices-requires
+estimate-from-prices-requires c κs =
+    let s = c .before .before .before .before .before .before .before .before .before .pre in
+    (rw (c .before .before .rows-in .ensures) (prices-sized _ _ _ _ _ _ _ (c .before .before .before .enum-told .given .1) (s .0)), (refl, s .1))
+
+same-length : tie.Need-same-length
+same-length c = search needs
+
+returns : tie.Need-returns
+returns c = from-returns _ _ _ _ _ _ _ _ _ _ _ (c .before .before .before .before .before .returns-shape .given .1) (c .before .before .estimate .ensures)
+
+same-length-2 : tie.Need-same-length-2
+same-length-2 c = search needs
+
+returns-2 : tie.Need-returns-2
+returns-2 c =
+    let f = rw (c .before .before .before .before .before .before .rows-in .ensures) at (c .before .before .before .estimate-from-prices .ensures) in
+    from-prices _ _ _ _ _ _ _ _ _ (c .before .before .before .before .before .before .before .enum-told .given .1) f
+
+pub prepare-spec : {M : Type 1} → statement M
+prepare-spec =
+    tie.close
+    (tie.spec
+    enum-known-returns-shape
+    estimate-requires
+    enum-told
+    rows-in-requires
+    slice-aggregate-estimate-from-prices
+    estimate-from-prices-requires
+    same-length
+    returns
+    same-length-2
+    returns-2)
