@@ -10,7 +10,7 @@ ghost use mathlib.Core.Bool.{true, false, _&&_};
 ghost use mathlib.Core.List.{[]};
 ghost use Prim.Native.Nat.{_*_, _≤_};
 ghost use lib.ListN.{length};
-ghost use Rattle.refusal.specs.Table.{first, andThen};
+ghost use Rattle.refusal.specs.Table.{first};
 ghost use Rattle.refusal.specs.declared.Outcome.the-variants.{Done};
 ghost use Rattle.lent.specs.Lent.{sizes};
 ghost use Rattle.resample.specs.Resample.{stepOf};
@@ -24,16 +24,6 @@ fn both(x: bool, y: bool) -> bool
     ensures { λ r. ⌜ r ≡ (x && y) ⌝ }
 {
     if x { y } else { false }
-}
-
-// Two stages: the second counts where the first is done.
-fn then(said: Outcome, rest: Outcome) -> Outcome
-    ensures { λ r. ⌜ r ≡ andThen said rest ⌝ }
-{
-    match said {
-        Outcome::Done => rest,
-        Outcome::Refused(_) => said,
-    }
 }
 
 // No matrix, no assets, and columns or a covariance that are not theirs.
@@ -89,7 +79,7 @@ fn judge(
     );
     let rooms = parity::judge_rooms(n, rows, order, weights, correlations, distances, scratch);
     let shapes = judge_shapes(n, prices, returns, covariance);
-    then(matrices, then(rooms, shapes))
+    refusal::and_then(matrices, refusal::and_then(rooms, shapes))
 }
 
 // The covariance of returns, at the front of out.

@@ -1,12 +1,12 @@
 -- The sizes of a matrix: what the code's tests say of the definitions, and what a matrix that is not refused for them knows. Assumes nothing.
-use Prim.Native.Nat.{ℕ, _+_, _*_, _/_, _%_, _<_, _≤_}
+use Prim.Native.Nat.{ℕ, _+_, _-_, _*_, _/_, _%_, _<_, _≤_}
 use mathlib.Core.Path.{_≡_, refl, sym, ap, subst, _∙_}
 use mathlib.Core.Bool.{Bool, true, false, not}
 use mathlib.Core.Logic.{_⊎_, inl, inr, ⊎-elim}
 use mathlib.Core.List.{List, [], _∷_, _++_}
-use native.Mathlib.Nat.{mul-zero, mul-div-cancel, mul-mod-left, div-add-mod', mul-le-mul}
+use native.Mathlib.Nat.{mul-zero, mul-div-cancel, mul-mod-left, div-add-mod', mul-le-mul, div-lt-iff-lt-mul}
 use native.Mathlib.Omega.{arith}
-use borrow.Author.Tests.{ltb-false, lt-ltb, le-ltb, eq-eqb, ne-eqb, eqb-true, not-false}
+use borrow.Author.Tests.{ltb-true, ltb-false, lt-ltb, le-ltb, eq-eqb, ne-eqb, eqb-true, not-false}
 use lib.Dec.{ltb, eqb}
 use lib.ListN.{length, replicate}
 use Rattle.refusal.specs.Table.{Line, first}
@@ -16,9 +16,9 @@ use Rattle.refusal.specs.declared.Outcome.{Outcome}
 use Rattle.refusal.specs.declared.Outcome.the-variants.{Done, Refused}
 use Rattle.refusal.proofs.Tables.{none, first-done, first-refused, parts-done}
 use Rattle.lent.specs.Grid.{over}
-use Rattle.lent.specs.Lent.{overLimit, otherLength, sizes, squares, laid, answerOf}
+use Rattle.lent.specs.Lent.{overLimit, otherLength, sizes, squares, laid, answerOf, toldOf}
 use Rattle.lent.specs.declared.Answer.{Answer}
-use Rattle.lent.proofs.Laws.{same-or-not, over-replicate}
+use Rattle.lent.proofs.Laws.{same-or-not, over-replicate, either}
 
 -- ---- the tests
 
@@ -131,3 +131,33 @@ module _ {A : Type 0} (z : A) (said o : Outcome) (answer : Answer) (rows w room 
   pub ends-done : (blank : List A) → said ≡ o → said ≡ Done → answer ≡ answerOf said rows w → out ≡ over cells blank → blank ≡ replicate room z
       → (answer ≡ answerOf o rows w) × (out ≡ laid z o room cells)
   ends-done blank e h a f b = (rw (← e) a, f ∙ rw b (laid-done z o room cells (sym e ∙ h)))
+
+-- ---- a buffer too short, by a division
+
+-- two tests that hold together are one
+same-test : (a b c d : ℕ) → (a < b → c < d) → (c < d → a < b) → ltb a b ≡ ltb c d
+same-test a b c d f g =
+    ⊎-elim
+    (λ e. e ∙ sym (lt-ltb c d (f (ltb-true a b e))))
+    (λ e. e ∙ sym (le-ltb c d (⊎-elim (λ h. absurd (let q : a < b = g (ltb-true c d h) in let p = ltb-false a b e in omega arith)) (λ h. ltb-false c d h) (either (ltb c d)))))
+    (either (ltb a b))
+
+pub no-rows : (room n : ℕ) → n ≡ 0 → false ≡ ltb room (2 * (n - 1))
+no-rows room n e = let q : 2 * (n - 1) ≤ room = omega arith in sym (le-ltb room (2 * (n - 1)) q)
+
+pub rows-lack : (room n : ℕ) → ltb (room / 2) (n - 1) ≡ ltb room (2 * (n - 1))
+rows-lack room n = same-test (room / 2) (n - 1) room (2 * (n - 1)) (λ h. omega arith) (λ h. omega arith)
+
+pub no-cells : (room n : ℕ) → n ≡ 0 → false ≡ ltb room (n * n)
+no-cells room n e = rw e (sym (le-ltb room 0 (omega arith)))
+
+pub cells-lack : (room n : ℕ) → (n ≡ 0 → ⊥) → ltb (room / n) n ≡ ltb room (n * n)
+cells-lack room n p =
+    let q : 0 < n = omega arith in
+    same-test (room / n) n room (n * n) (div-lt-iff-lt-mul q .0) (div-lt-iff-lt-mul q .1)
+
+-- how a call went, out of its answer
+pub told-as : (o : Outcome) (rows w : ℕ) → toldOf (answerOf o rows w) ≡ o
+unfolding toldOf answerOf
+told-as Done rows w = refl
+told-as (Refused r) rows w = refl

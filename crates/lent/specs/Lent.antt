@@ -69,3 +69,8 @@ laid z (Refused r) room cells = replicate room z
 unfoldable pub answerOf : Outcome → ℕ → ℕ → Answer
 answerOf Done rows w = answer.Matrix rows w
 answerOf (Refused r) rows w = answer.Refused r
+
+-- how a call that answers a matrix went
+unfoldable pub toldOf : Answer → Outcome
+toldOf (answer.Matrix rows w) = Done
+toldOf (answer.Refused r) = Refused r

@@ -4,12 +4,13 @@ use refusal::Outcome;
 use refusal::Refusal;
 ghost use mathlib.Core.Path.{_≡_};
 ghost use mathlib.Core.List.{_++_};
-ghost use Prim.Native.Nat.{_-_};
+ghost use Prim.Native.Nat.{_-_, _*_};
+ghost use lib.Dec.{ltb};
 ghost use lib.ListN.{length, take, replicate};
 ghost use Rattle.arithmetic.specs.Constants.{pz};
 ghost use Rattle.refusal.specs.Table.{first};
 ghost use Rattle.lent.specs.Grid.{zeros, noughts};
-ghost use Rattle.lent.specs.Lent.{tooBig, misfits, sizes, squares, overLimit, otherLength, answerOf};
+ghost use Rattle.lent.specs.Lent.{tooBig, misfits, sizes, squares, overLimit, otherLength, answerOf, toldOf};
 
 pub const MOST_ASSETS: usize = 64;
 
@@ -66,20 +67,20 @@ pub fn clear_from(out: &mut [f64], start: usize)
 pub fn clear_numbers_from(out: &mut [usize], start: usize)
     ensures { λ _. ⌜ now (out .exit) ≡ take start (now (out .entry)) ++ noughts (length (now (out .entry)) - start) ⌝ }
 {
-    let mut i = start;
-    while i < out.len() {
-        out[i] = 0;
-        i += 1;
+    let mut k = start;
+    while k < out.len() {
+        out[k] = 0;
+        k += 1;
     }
 }
 
 pub fn clear_bytes_from(out: &mut [u8], start: usize)
     ensures { λ _. ⌜ now (out .exit) ≡ take start (now (out .entry)) ++ noughts (length (now (out .entry)) - start) ⌝ }
 {
-    let mut i = start;
-    while i < out.len() {
-        out[i] = 0;
-        i += 1;
+    let mut at = start;
+    while at < out.len() {
+        out[at] = 0;
+        at += 1;
     }
 }
 
@@ -159,4 +160,37 @@ pub fn answered(said: Outcome, rows: usize, columns: usize) -> Answer
         Outcome::Done => Answer::Matrix { rows, columns },
         Outcome::Refused(r) => Answer::Refused(r),
     }
+}
+
+// How a call that answers a matrix went.
+pub fn told(answer: Answer) -> Outcome
+    ensures { λ r. ⌜ r ≡ toldOf answer ⌝ }
+{
+    match answer {
+        Answer::Matrix {
+            rows: _,
+            columns: _,
+        } => Outcome::Done,
+        Answer::Refused(r) => Outcome::Refused(r),
+    }
+}
+
+// Under the 2(n − 1) numbers of n assets' merge rows. By a division, here and below: the product could overflow.
+pub fn lacks_rows(room: usize, n: usize) -> bool
+    ensures { λ r. ⌜ r ≡ ltb room (2 * (n - 1)) ⌝ }
+{
+    if n == 0 {
+        return false;
+    }
+    room / 2 < n - 1
+}
+
+// Under n by n cells.
+pub fn lacks_cells(room: usize, n: usize) -> bool
+    ensures { λ r. ⌜ r ≡ ltb room (n * n) ⌝ }
+{
+    if n == 0 {
+        return false;
+    }
+    room / n < n
 }

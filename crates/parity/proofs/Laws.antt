@@ -17,13 +17,14 @@ use Rattle.refusal.specs.declared.Outcome.{Outcome}
 use Rattle.refusal.specs.declared.Outcome.the-variants.{Done, Refused}
 use Rattle.refusal.proofs.Tables.{table-end, table-pass, first-done}
 use Rattle.lent.specs.Grid.{tab, grid, over}
-use Rattle.lent.specs.Lent.{overLimit, otherLength, sizes, squares, laid, answerOf}
+use Rattle.lent.specs.Lent.{overLimit, otherLength, sizes, squares, laid, answerOf, toldOf}
 use Rattle.lent.specs.declared.Answer.{Answer}
+use Rattle.lent.proofs.Sizes.{told-as}
 use Rattle.lent.proofs.Laws.{square-in, length-grid, tab-of, over-all, length-tab, either, drop-replicate}
 use Rattle.stats.specs.Covariance.{anyLow, correlationOutcome, correlationAnswer, correlations}
 use Rattle.stats.proofs.Laws.{correlation-squared}
 use Rattle.distances.specs.Distances.{distanceCell, distanceOutcome, distances, betweenCell, betweens}
-use Rattle.distances.specs.declared.Measure.the-variants.{Hrp}
+use Rattle.distances.specs.declared.Measure.{Measure}
 use Rattle.tree.specs.Rows.{isTree, isOrder}
 use Rattle.tree.specs.Tree.{leavesOf}
 use Rattle.tree.specs.Order.{seriated, orderOf}
@@ -33,13 +34,13 @@ use Rattle.linkage.specs.Merge.{mergeRows}
 use Rattle.linkage.specs.Children.{childrenTable, childrenOutcome, childrenRows}
 use Rattle.linkage.specs.declared.Distance.{Distance}
 use Rattle.linkage.specs.declared.Distance.the-variants.{Correlation, DistanceOfDistances}
-use Rattle.linkage.specs.declared.Linkage.the-variants.{Single}
+use Rattle.linkage.specs.declared.Linkage.{Linkage}
 use Rattle.linkage.proofs.Rows.{rows-tree, rows-length}
 use Rattle.clusters.specs.Shares.{weightsIn}
 use Rattle.bisection.specs.Bisection.{weightsOf, bisectionOutcome, bisectionAnswer, bisectionWeights}
 use Rattle.bisection.proofs.Laws.{bisection-as-shares}
 use Rattle.parity.specs.Parity.{treeDistances, seriatedIn, correlationsOf}
-use Rattle.parity.specs.Steps.{outcomeOf, sideOutcome, Assets}
+use Rattle.parity.specs.Steps.{sideOutcome, Assets}
 
 -- ---- buffers
 
@@ -76,34 +77,6 @@ copied from to after k e h a b =
 
 -- ---- sizes
 
--- two tests that hold together are one
-same-test : (a b c d : ℕ) → (a < b → c < d) → (c < d → a < b) → ltb a b ≡ ltb c d
-same-test a b c d f g =
-    ⊎-elim
-    (λ e. e ∙ sym (lt-ltb c d (f (ltb-true a b e))))
-    (λ e. e ∙ sym (le-ltb c d (⊎-elim (λ h. absurd (let q : a < b = g (ltb-true c d h) in let p = ltb-false a b e in omega arith)) (λ h. ltb-false c d h) (either (ltb c d)))))
-    (either (ltb a b))
-
-pub no-rows : (room n : ℕ) → n ≡ 0 → false ≡ ltb room (2 * (n - 1))
-no-rows room n e = let q : 2 * (n - 1) ≤ room = omega arith in sym (le-ltb room (2 * (n - 1)) q)
-
-pub rows-lack : (room n : ℕ) → ltb (room / 2) (n - 1) ≡ ltb room (2 * (n - 1))
-rows-lack room n = same-test (room / 2) (n - 1) room (2 * (n - 1)) (λ h. omega arith) (λ h. omega arith)
-
-pub no-cells : (room n : ℕ) → n ≡ 0 → false ≡ ltb room (n * n)
-no-cells room n e = rw e (sym (le-ltb room 0 (omega arith)))
-
-pub cells-lack : (room n : ℕ) → (n ≡ 0 → ⊥) → ltb (room / n) n ≡ ltb room (n * n)
-cells-lack room n p =
-    let q : 0 < n = omega arith in
-    same-test (room / n) n room (n * n) (div-lt-iff-lt-mul q .0) (div-lt-iff-lt-mul q .1)
-
--- how a call went, out of its answer
-pub outcome-of : (o : Outcome) (rows w : ℕ) → outcomeOf (answerOf o rows w) ≡ o
-unfolding outcomeOf answerOf
-outcome-of Done rows w = refl
-outcome-of (Refused r) rows w = refl
-
 module _ (n : ℕ) (h : n ≤ 64) where
   pub sizes-pass : (len : ℕ) → len ≡ n * n → first (sizes len n n) ≡ Done
   unfolding sizes overLimit otherLength first
@@ -121,21 +94,21 @@ module _ (n : ℕ) (h : n ≤ 64) where
 
   -- ---- each call
 
-  pub distances-exact : (corr out : List Float) → length corr ≡ n * n → (room : ℕ) → room ≡ n * n → out ≡ distances Hrp corr n n room → out ≡ grid n n (distanceCell Hrp corr n)
+  pub distances-exact : (m : Measure) (corr out : List Float) → length corr ≡ n * n → (room : ℕ) → room ≡ n * n → out ≡ distances m corr n n room → out ≡ grid n n (distanceCell m corr n)
   unfolding distances distanceOutcome
-  distances-exact corr out e room f g = g ∙ laid-exact pz _ room _ (squares-pass (length corr) room e f) (length-grid n n _ ∙ sym f)
+  distances-exact m corr out e room f g = g ∙ laid-exact pz _ room _ (squares-pass (length corr) room e f) (length-grid n n _ ∙ sym f)
 
   pub betweens-exact : (d out : List Float) → length d ≡ n * n → (room : ℕ) → room ≡ n * n → out ≡ betweens d n n room → out ≡ grid n n (betweenCell d n)
   unfolding betweens distanceOutcome
   betweens-exact d out e room f g = g ∙ laid-exact pz _ room _ (squares-pass (length d) room e f) (length-grid n n _ ∙ sym f)
 
-  pub rows-exact : (xs : List Float) (out : List ℕ) → length xs ≡ n * n → (room : ℕ) → room ≡ 2 * (n - 1) → out ≡ childrenRows Single xs n n room → out ≡ mergeRows Single n xs
+  pub rows-exact : (l : Linkage) (xs : List Float) (out : List ℕ) → length xs ≡ n * n → (room : ℕ) → room ≡ 2 * (n - 1) → out ≡ childrenRows l xs n n room → out ≡ mergeRows l n xs
   unfolding childrenRows childrenOutcome childrenTable
-  rows-exact xs out e room f g =
+  rows-exact l xs out e room f g =
       let a : ltb room (2 * (n - 1)) ≡ false = le-ltb room (2 * (n - 1)) (omega arith) in
       let b : eqb n n ≡ true = eq-eqb n n refl in
       let q = first-done (sizes (length xs) n n) _ (sizes-pass (length xs) e) ∙ table-pass _ _ _ a ∙ table-pass _ _ _ (ap not b) ∙ table-end in
-      g ∙ laid-exact 0 _ room _ q (rows-length Single n xs h ∙ sym f)
+      g ∙ laid-exact 0 _ room _ q (rows-length l n xs h ∙ sym f)
 
   pub seriated-exact : (m : List Float) (order : List ℕ) (out : List Float) → length m ≡ n * n → isOrder order n ≡ true → (room : ℕ) → room ≡ n * n → out ≡ seriated m n n order room → out ≡ seriatedIn order m n
   unfolding seriated seriatedIn
@@ -152,26 +125,26 @@ unfolding treeDistances
 tree-between d xs n e = rw e
 
 module _ (n : ℕ) (p : Assets n) where
-  pub order-exact : (xs : List Float) (rows out : List ℕ) (room : ℕ) → room ≡ n → rows ≡ mergeRows Single n xs → out ≡ orderOf rows n (2 * n - 2) room → out ≡ leavesOf (mergeRows Single n xs) n (2 * n - 2)
-  order-exact xs rows out room f r g =
+  pub order-exact : (k : Linkage) (xs : List Float) (rows out : List ℕ) (room : ℕ) → room ≡ n → rows ≡ mergeRows k n xs → out ≡ orderOf rows n (2 * n - 2) room → out ≡ leavesOf (mergeRows k n xs) n (2 * n - 2)
+  order-exact k xs rows out room f r g =
       let l = p .some in
-      let q : isTree rows n ≡ true = rw r (rows-tree Single n xs (p .some) (p .wide)) in
+      let q : isTree rows n ≡ true = rw r (rows-tree k n xs (p .some) (p .wide)) in
       let s : length (leavesOf rows n (2 * n - 2)) ≡ n = order-size rows n q (omega arith) in
       let z : room - length (leavesOf rows n (2 * n - 2)) ≡ 0 = omega arith in
       let t : Ordered rows n (2 * n - 2) room = record { most = p .wide; roomy = omega arith; on = record { some = omega arith; tree = q; node = omega arith } } in
       g ∙ order-laid t ∙ rw z (append-nil _) ∙ ap (λ (l : List ℕ). leavesOf l n (2 * n - 2)) r
 
   -- the correlations are refused for a variance alone
-  pub low-said : (cov : List Float) (room : ℕ) (a : Answer) (r : Outcome) → length cov ≡ n * n → room ≡ n * n → a ≡ correlationAnswer cov n n room → r ≡ outcomeOf a → r ≡ orElse (anyLow cov n) NoData Done
+  pub low-said : (cov : List Float) (room : ℕ) (a : Answer) (r : Outcome) → length cov ≡ n * n → room ≡ n * n → a ≡ correlationAnswer cov n n room → r ≡ toldOf a → r ≡ orElse (anyLow cov n) NoData Done
   unfolding correlationAnswer orElse
   low-said cov room a r e f g h =
       let z : eqb n 0 ≡ false = ne-eqb n 0 (λ q. let l = p .some in omega arith) in
-      h ∙ ap outcomeOf g ∙ outcome-of (correlationOutcome cov n n room) n n ∙ correlation-squared cov n n room (squares-pass n (p .wide) (length cov) room e f) ∙ rw z
+      h ∙ ap toldOf g ∙ told-as (correlationOutcome cov n n room) n n ∙ correlation-squared cov n n room (squares-pass n (p .wide) (length cov) room e f) ∙ rw z
 
-  pub correlations-exact : (cov out : List Float) (room : ℕ) (a : Answer) (r : Outcome) → room ≡ n * n → a ≡ correlationAnswer cov n n room → r ≡ outcomeOf a → r ≡ Done → out ≡ correlations cov n n room → out ≡ correlationsOf cov n
+  pub correlations-exact : (cov out : List Float) (room : ℕ) (a : Answer) (r : Outcome) → room ≡ n * n → a ≡ correlationAnswer cov n n room → r ≡ toldOf a → r ≡ Done → out ≡ correlations cov n n room → out ≡ correlationsOf cov n
   unfolding correlationAnswer correlations correlationsOf
   correlations-exact cov out room a r f g h d e =
-      let q : correlationOutcome cov n n room ≡ Done = sym (h ∙ ap outcomeOf g ∙ outcome-of (correlationOutcome cov n n room) n n) ∙ d in
+      let q : correlationOutcome cov n n room ≡ Done = sym (h ∙ ap toldOf g ∙ told-as (correlationOutcome cov n n room) n n) ∙ d in
       e ∙ laid-exact pz _ room _ q (length-grid n n _ ∙ sym f)
 
   -- the weights are refused for a side alone
@@ -180,9 +153,9 @@ module _ (n : ℕ) (p : Assets n) where
   side-said cov order room e o f = let l = p .some in bisection-as-shares cov n order room (omega arith) (p .wide) e o (omega arith)
 
   module _ (cov : List Float) (order : List ℕ) (room : ℕ) (e : length cov ≡ n * n) (o : isOrder order n ≡ true) (f : room ≡ n) where
-    pub share-told : (a : Answer) (r : Outcome) → a ≡ bisectionAnswer cov n n order room → r ≡ outcomeOf a → r ≡ sideOutcome cov n order
+    pub share-told : (a : Answer) (r : Outcome) → a ≡ bisectionAnswer cov n n order room → r ≡ toldOf a → r ≡ sideOutcome cov n order
     unfolding bisectionAnswer
-    share-told a r g h = h ∙ ap outcomeOf g ∙ outcome-of (bisectionOutcome cov n n order room) 1 n ∙ side-said cov order room e o f
+    share-told a r g h = h ∙ ap toldOf g ∙ told-as (bisectionOutcome cov n n order room) 1 n ∙ side-said cov order room e o f
 
     pub share-laid : (out : List Float) → out ≡ bisectionWeights cov n n order room → out ≡ laid pz (sideOutcome cov n order) n (weightsIn (weightsOf cov n order))
     unfolding bisectionWeights

@@ -13,8 +13,6 @@ use Rattle.refusal.specs.declared.Outcome.{Outcome}
 use Rattle.refusal.specs.declared.Outcome.the-variants as outcome
 use Rattle.lent.specs.Grid.{grid}
 use Rattle.lent.specs.Lent.{sizes, laid}
-use Rattle.lent.specs.declared.Answer.{Answer}
-use Rattle.lent.specs.declared.Answer.the-variants as answer
 use Rattle.distances.specs.Distances.{distanceCell}
 use Rattle.distances.specs.declared.Measure.the-variants.{Hrp}
 use Rattle.tree.specs.Rows.{isOrder}
@@ -25,11 +23,6 @@ use Rattle.linkage.specs.declared.Linkage.the-variants.{Single}
 use Rattle.clusters.specs.Shares.{isNone, weightsIn}
 use Rattle.bisection.specs.Bisection.{weightsOf}
 use Rattle.parity.specs.Parity.{Room, roomFor, roomLines, riskLines, treeDistances, rowsOf, orderOf, sharesOf, seriatedIn, correlationsOf, distancesOf}
-
--- how a call that answers a matrix went
-unfoldable pub outcomeOf : Answer → Outcome
-outcomeOf (answer.Matrix rows w) = outcome.Done
-outcomeOf (answer.Refused r) = outcome.Refused r
 
 -- the lines before those of the risk
 unfoldable pub judgeTable : ℕ → ℕ → ℕ → Room → List Line

@@ -1,7 +1,6 @@
 // Hierarchical risk parity on a given covariance.
 
 use distances::Measure;
-use lent::Answer;
 use linkage::Distance;
 use linkage::Linkage;
 use refusal::Outcome;
@@ -10,10 +9,10 @@ use tree::Node;
 ghost use mathlib.Core.Path.{_≡_};
 ghost use mathlib.Core.Bool.{true, not};
 ghost use Prim.Native.Nat.{_-_, _*_, _≤_};
-ghost use lib.Dec.{ltb, eqb};
+ghost use lib.Dec.{eqb};
 ghost use lib.ListN.{length};
 ghost use Rattle.arithmetic.specs.Constants.{pz};
-ghost use Rattle.refusal.specs.Table.{first, orElse, andThen};
+ghost use Rattle.refusal.specs.Table.{first, orElse};
 ghost use Rattle.refusal.specs.declared.Refusal.the-variants.{NoData, DimensionMismatch};
 ghost use Rattle.refusal.specs.declared.Outcome.the-variants.{Done};
 ghost use Rattle.lent.specs.Lent.{laid};
@@ -23,20 +22,7 @@ ghost use Rattle.clusters.specs.Shares.{weightsIn};
 ghost use Rattle.bisection.specs.Bisection.{weightsOf};
 ghost use Rattle.tree.specs.Rows.{isOrder};
 ghost use Rattle.parity.specs.Parity.{treeDistances, seriatedIn, roomFor, roomLines, riskLines, Laid, Answered, Cleared};
-ghost use Rattle.parity.specs.Steps.{outcomeOf, judgeTable, Assets, Judged, Exact, exact, Arranged, Seriable, sideOutcome, Made};
-
-// How a call that answers a matrix went.
-fn told(answer: Answer) -> Outcome
-    ensures { λ r. ⌜ r ≡ outcomeOf answer ⌝ }
-{
-    match answer {
-        Answer::Matrix {
-            rows: _,
-            columns: _,
-        } => Outcome::Done,
-        Answer::Refused(r) => Outcome::Refused(r),
-    }
-}
+ghost use Rattle.parity.specs.Steps.{judgeTable, Assets, Judged, Exact, exact, Arranged, Seriable, sideOutcome, Made};
 
 // The tree of n by n distances; room is for the distances of distances.
 fn link(distance: Distance, n: usize, d: &[f64], room: &mut [f64], rows: &mut [usize])
@@ -117,7 +103,7 @@ fn share(cov: &[f64], n: usize, order: &[usize], weights: &mut [f64]) -> Outcome
     ensures { λ r. ⌜ r ≡ sideOutcome (now (cov .entry)) n (now (order .entry)) ⌝ }
     ensures { λ r. ⌜ now (weights .exit) ≡ laid pz (sideOutcome (now (cov .entry)) n (now (order .entry))) n (weightsIn (weightsOf (now (cov .entry)) n (now (order .entry)))) ⌝ }
 {
-    told(bisection::recursive_bisection_min_var(cov, n, n, order, weights))
+    lent::told(bisection::recursive_bisection_min_var(cov, n, n, order, weights))
 }
 
 // All the steps, into buffers of just their sizes: a variance is refused by the correlations, a side by the weights.
@@ -135,7 +121,7 @@ fn work(
     requires { ⌜ Exact n (now cov) (now rows) (now order) (now weights) (now correlations) (now distances) (now scratch) ⌝ }
     ensures { λ r. ⌜ Made distance (now (cov .entry)) n r (now (rows .exit)) (now (order .exit)) (now (weights .exit)) (now (correlations .exit)) (now (distances .exit)) ⌝ }
 {
-    let low = told(stats::cov2corr(cov, n, n, scratch));
+    let low = lent::told(stats::cov2corr(cov, n, n, scratch));
     let Outcome::Done = low else {
         return low;
     };
@@ -168,7 +154,7 @@ pub fn clear_all(
     lent::clear(weights);
     lent::clear(correlations);
     lent::clear(distances);
-    lent::clear(scratch);
+    lent::clear(scratch); // nothing of an earlier account
 }
 
 // The steps, and zeros at the end in all that is not the answer.
@@ -238,26 +224,6 @@ fn run(
     )
 }
 
-// Under 2(n − 1) numbers. By a division, here and below: the product could overflow.
-fn lacks_rows(room: usize, n: usize) -> bool
-    ensures { λ r. ⌜ r ≡ ltb room (2 * (n - 1)) ⌝ }
-{
-    if n == 0 {
-        return false;
-    }
-    room / 2 < n - 1
-}
-
-// Under n by n cells.
-fn lacks_cells(room: usize, n: usize) -> bool
-    ensures { λ r. ⌜ r ≡ ltb room (n * n) ⌝ }
-{
-    if n == 0 {
-        return false;
-    }
-    room / n < n
-}
-
 // What the sizes of the lent buffers refuse.
 pub fn judge_rooms(
     n: usize,
@@ -275,21 +241,11 @@ pub fn judge_rooms(
         Refusal::ShortBuffer,
         Outcome::Done,
     );
-    let o = refusal::refuse(lacks_cells(distances, n), Refusal::ShortBuffer, o);
-    let o = refusal::refuse(lacks_cells(correlations, n), Refusal::ShortBuffer, o);
+    let o = refusal::refuse(lent::lacks_cells(distances, n), Refusal::ShortBuffer, o);
+    let o = refusal::refuse(lent::lacks_cells(correlations, n), Refusal::ShortBuffer, o);
     let o = refusal::refuse(weights < n, Refusal::ShortBuffer, o);
     let o = refusal::refuse(order < n, Refusal::ShortBuffer, o);
-    refusal::refuse(lacks_rows(rows, n), Refusal::ShortBuffer, o)
-}
-
-// Two stages: the second counts where the first is done.
-fn then(said: Outcome, rest: Outcome) -> Outcome
-    ensures { λ r. ⌜ r ≡ andThen said rest ⌝ }
-{
-    match said {
-        Outcome::Done => rest,
-        Outcome::Refused(_) => said,
-    }
+    refusal::refuse(lent::lacks_rows(rows, n), Refusal::ShortBuffer, o)
 }
 
 // No assets, then another size than theirs.
@@ -329,7 +285,7 @@ fn judge(
         scratch,
     );
     let shape = judge_shape(rows_in, columns);
-    then(sized, then(rooms, shape))
+    refusal::and_then(sized, refusal::and_then(rooms, shape))
 }
 
 // The weights of a covariance of as many assets as it has columns, with their tree, its leaf order and both matrices in that order.

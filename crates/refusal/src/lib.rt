@@ -3,7 +3,7 @@
 ghost use mathlib.Core.Path.{_≡_};
 ghost use lib.ListN.{getD};
 ghost use Rattle.refusal.specs.Refusal.{numberOf, valuesOf};
-ghost use Rattle.refusal.specs.Table.{orElse};
+ghost use Rattle.refusal.specs.Table.{orElse, andThen};
 
 // A case for each number, named as the source's error where it has one.
 pub enum Refusal {
@@ -114,4 +114,14 @@ pub fn refuse(test: bool, given: Refusal, rest: Outcome) -> Outcome
         return Outcome::Refused(given);
     }
     rest
+}
+
+// Two stages: the second counts where the first is done.
+pub fn and_then(said: Outcome, rest: Outcome) -> Outcome
+    ensures { λ o. ⌜ o ≡ andThen said rest ⌝ }
+{
+    match said {
+        Outcome::Done => rest,
+        Outcome::Refused(_) => said,
+    }
 }

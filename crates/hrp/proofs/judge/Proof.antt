@@ -14,15 +14,15 @@ judge-rooms-requires c κs = search needs
 judge-shapes-requires : tie.Need-judge-shapes-requires
 judge-shapes-requires c κs = search needs
 
-then-requires : tie.Need-then-requires
-then-requires c κs = search needs
+and-then-requires : tie.Need-and-then-requires
+and-then-requires c κs = search needs
 
-then-requires-2 : tie.Need-then-requires-2
-then-requires-2 c κs = search needs
+and-then-requires-2 : tie.Need-and-then-requires-2
+and-then-requires-2 c κs = search needs
 
 returns : tie.Need-returns
 unfolding judgeTable
-returns c = staged _ _ _ _ _ _ _ _ (c .before .before .before .before .judge-matrices .ensures) (c .before .before .before .judge-rooms .ensures) (c .before .before .judge-shapes .ensures) (c .before .then .ensures) (c .then2 .ensures)
+returns c = staged _ _ _ _ _ _ _ _ (c .before .before .before .before .judge-matrices .ensures) (c .before .before .before .judge-rooms .ensures) (c .before .before .judge-shapes .ensures) (c .before .and-then .ensures) (c .and-then2 .ensures)
 
 pub judge-spec : {M : Type 1} → statement M
 judge-spec =
@@ -31,6 +31,6 @@ judge-spec =
     judge-matrices-requires
     judge-rooms-requires
     judge-shapes-requires
-    then-requires
-    then-requires-2
+    and-then-requires
+    and-then-requires-2
     returns)

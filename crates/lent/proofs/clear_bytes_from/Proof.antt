@@ -8,10 +8,10 @@ use Rattle.lent.proofs.clear_bytes_from.Statement.{statement}
 use Rattle.lent.proofs.clear_bytes_from.Tie as tie
 
 abbrev Inv-loop : tie.InvT-loop
-Inv-loop out₀ start i₀ out i = Clearing 0 start out₀ i out
+Inv-loop out₀ start at₀ out at = Clearing 0 start out₀ at out
 
 abbrev μ-loop : tie.MeasureT-loop
-μ-loop out₀ start i₀ out i = length out₀ - i
+μ-loop out₀ start at₀ out at = length out₀ - at
 
 loop-holds : tie.Need-loop-holds Inv-loop μ-loop
 loop-holds c = clearing-start _ _ _
@@ -19,8 +19,8 @@ loop-holds c = clearing-start _ _ _
 slice-write-out : tie.Need-slice-write-out Inv-loop μ-loop
 slice-write-out c = search needs
 
-add-i : tie.Need-add-i Inv-loop μ-loop
-add-i c = search needs
+add-at : tie.Need-add-at Inv-loop μ-loop
+add-at c = search needs
 
 loop-less : tie.Need-loop-less Inv-loop μ-loop
 loop-less c = omega (arith, c .before .loop .inv .same)
@@ -42,7 +42,7 @@ clear-bytes-from-spec =
     μ-loop
     loop-holds
     slice-write-out
-    add-i
+    add-at
     loop-less
     loop-again
     same-length

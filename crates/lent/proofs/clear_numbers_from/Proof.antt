@@ -8,10 +8,10 @@ use Rattle.lent.proofs.clear_numbers_from.Statement.{statement}
 use Rattle.lent.proofs.clear_numbers_from.Tie as tie
 
 abbrev Inv-loop : tie.InvT-loop
-Inv-loop out₀ start i₀ out i = Clearing 0 start out₀ i out
+Inv-loop out₀ start k₀ out k = Clearing 0 start out₀ k out
 
 abbrev μ-loop : tie.MeasureT-loop
-μ-loop out₀ start i₀ out i = length out₀ - i
+μ-loop out₀ start k₀ out k = length out₀ - k
 
 loop-holds : tie.Need-loop-holds Inv-loop μ-loop
 loop-holds c = clearing-start _ _ _
@@ -22,8 +22,8 @@ mul-out c = search needs
 slice-write-out : tie.Need-slice-write-out Inv-loop μ-loop
 slice-write-out c = search needs
 
-add-i : tie.Need-add-i Inv-loop μ-loop
-add-i c = search needs
+add-k : tie.Need-add-k Inv-loop μ-loop
+add-k c = search needs
 
 loop-less : tie.Need-loop-less Inv-loop μ-loop
 loop-less c = omega (arith, c .before .loop .inv .same)
@@ -46,7 +46,7 @@ clear-numbers-from-spec =
     loop-holds
     mul-out
     slice-write-out
-    add-i
+    add-k
     loop-less
     loop-again
     same-length

@@ -7,6 +7,7 @@ use Rattle.linkage.specs.Merge.{mergeRows}
 use Rattle.linkage.specs.declared.Linkage.the-variants.{Single}
 use Rattle.parity.specs.Parity.{treeDistances}
 use Rattle.parity.specs.Steps.{rowsIn}
+use Rattle.distances.specs.declared.Measure.the-variants.{Hrp}
 use Rattle.parity.proofs.Laws.{distances-exact, order-exact}
 use Rattle.parity.proofs.arrange.Statement.{statement}
 use Rattle.parity.proofs.arrange.Tie as tie
@@ -44,9 +45,9 @@ returns c =
     let s = c .before .before .before .before .before .before .before .before .before .before .before .before .before .before .before .before .before .before .before .before .before .before in
     let p = s .pre in
     let n = s .args .n in
-    let d = distances-exact n (p .0 .wide) (s .args .corr .now) _ (p .1 .0) _ (p .1 .1 .1 .1 .0) (c .before .before .before .before .before .before .before .before .before .before .before .before .before .before .before .corr-to-distances .ensures .1) in
+    let d = distances-exact n (p .0 .wide) Hrp (s .args .corr .now) _ (p .1 .0) _ (p .1 .1 .1 .1 .0) (c .before .before .before .before .before .before .before .before .before .before .before .before .before .before .before .corr-to-distances .ensures .1) in
     let r = c .before .before .before .before .before .before .before .before .before .link .ensures ∙ ap (λ (x : List Float). mergeRows Single n (treeDistances (s .args .distance) x n)) d in
-    record { rows-are = r; order-is = order-exact n (p .0) _ _ _ _ (p .1 .1 .1 .0) r (c .before .before .quasi-diagonalization .ensures .1); distances-are = d }
+    record { rows-are = r; order-is = order-exact n (p .0) Single _ _ _ _ (p .1 .1 .1 .0) r (c .before .before .quasi-diagonalization .ensures .1); distances-are = d }
 
 pub arrange-spec : {M : Type 1} → statement M
 arrange-spec =

@@ -13,14 +13,14 @@ judge-rooms-requires c κs = search needs
 judge-shape-requires : tie.Need-judge-shape-requires
 judge-shape-requires c κs = search needs
 
-then-requires : tie.Need-then-requires
-then-requires c κs = search needs
+and-then-requires : tie.Need-and-then-requires
+and-then-requires c κs = search needs
 
-then-requires-2 : tie.Need-then-requires-2
-then-requires-2 c κs = search needs
+and-then-requires-2 : tie.Need-and-then-requires-2
+and-then-requires-2 c κs = search needs
 
 returns : tie.Need-returns
-returns c = judge-said _ _ _ _ _ _ _ _ _ (c .before .before .before .before .sized .ensures) (c .before .before .before .judge-rooms .ensures) (c .before .before .judge-shape .ensures) (c .before .then .ensures) (c .then2 .ensures)
+returns c = judge-said _ _ _ _ _ _ _ _ _ (c .before .before .before .before .sized .ensures) (c .before .before .before .judge-rooms .ensures) (c .before .before .judge-shape .ensures) (c .before .and-then .ensures) (c .and-then2 .ensures)
 
 pub judge-spec : {M : Type 1} → statement M
 judge-spec =
@@ -29,6 +29,6 @@ judge-spec =
     sized-requires
     judge-rooms-requires
     judge-shape-requires
-    then-requires
-    then-requires-2
+    and-then-requires
+    and-then-requires-2
     returns)

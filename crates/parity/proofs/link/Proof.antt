@@ -28,7 +28,7 @@ same-length c = search needs
 returns : tie.Need-returns
 returns c =
     let s = c .before .before .before .before .before .before .before .before .before in
-    rows-exact (s .args .n) (s .pre .0) (s .args .d .now) _ (s .pre .1 .0) _ (s .pre .1 .1 .1) (c .before .before .linkage-children .ensures .1) ∙ ap (mergeRows Single (s .args .n)) (tree-plain (s .args .distance) (s .args .d .now) (s .args .n) (c .before .before .before .before .enum-told .given .1))
+    rows-exact (s .args .n) (s .pre .0) Single (s .args .d .now) _ (s .pre .1 .0) _ (s .pre .1 .1 .1) (c .before .before .linkage-children .ensures .1) ∙ ap (mergeRows Single (s .args .n)) (tree-plain (s .args .distance) (s .args .d .now) (s .args .n) (c .before .before .before .before .enum-told .given .1))
 
 same-length-2 : tie.Need-same-length-2
 same-length-2 c = search needs
@@ -41,7 +41,7 @@ returns-2 c =
     let s = c .before .before .before .before .before .before .before .before .before .before .before .before .before .before in
     let n = s .args .n in
     let b = betweens-exact n (s .pre .0) (s .args .d .now) _ (s .pre .1 .0) _ (s .pre .1 .1 .0) (c .before .before .before .before .before .before .before .distance-of-distances .ensures .1) in
-    rows-exact n (s .pre .0) _ _ (c .before .before .before .before .before .before .before .distance-of-distances .kept .1 .1 .1 .0 ∙ s .pre .1 .1 .0) _ (s .pre .1 .1 .1) (c .before .before .linkage-children2 .ensures .1) ∙ ap (mergeRows Single n) (b ∙ tree-between (s .args .distance) (s .args .d .now) n (c .before .before .before .before .before .before .before .before .before .enum-told2 .given .1))
+    rows-exact n (s .pre .0) Single _ _ (c .before .before .before .before .before .before .before .distance-of-distances .kept .1 .1 .1 .0 ∙ s .pre .1 .1 .0) _ (s .pre .1 .1 .1) (c .before .before .linkage-children2 .ensures .1) ∙ ap (mergeRows Single n) (b ∙ tree-between (s .args .distance) (s .args .d .now) n (c .before .before .before .before .before .before .before .before .before .enum-told2 .given .1))
 
 pub link-spec : {M : Type 1} → statement M
 link-spec =

@@ -1,8 +1,8 @@
--- `parity::told` meets its contract. Assumes nothing.
+-- `lent::told` meets its contract. Assumes nothing.
 use borrow.Author.Needs.{needs}
-use Rattle.parity.specs.Steps.{outcomeOf}
-use Rattle.parity.proofs.told.Statement.{statement}
-use Rattle.parity.proofs.told.Tie as tie
+use Rattle.lent.specs.Lent.{toldOf}
+use Rattle.lent.proofs.told.Statement.{statement}
+use Rattle.lent.proofs.told.Tie as tie
 
 enum-told : tie.Need-enum-told
 enum-told c = search needs
@@ -11,11 +11,11 @@ enum-known-answer : tie.Need-enum-known-answer
 enum-known-answer c = search needs
 
 returns : tie.Need-returns
-unfolding outcomeOf
+unfolding toldOf
 returns c = search needs
 
 returns-2 : tie.Need-returns-2
-unfolding outcomeOf
+unfolding toldOf
 returns-2 c = rw (c .before .answer .given .1)
 
 pub told-spec : {M : Type 1} → statement M

@@ -1,8 +1,8 @@
--- `parity::lacks_rows` meets its contract. Assumes nothing.
+-- `lent::lacks_rows` meets its contract. Assumes nothing.
 use borrow.Author.Needs.{needs}
-use Rattle.parity.proofs.Laws.{no-rows, rows-lack}
-use Rattle.parity.proofs.lacks_rows.Statement.{statement}
-use Rattle.parity.proofs.lacks_rows.Tie as tie
+use Rattle.lent.proofs.Sizes.{no-rows, rows-lack}
+use Rattle.lent.proofs.lacks_rows.Statement.{statement}
+use Rattle.lent.proofs.lacks_rows.Tie as tie
 
 returns : tie.Need-returns
 returns c = no-rows _ _ (c .if1 .taken)

@@ -1,9 +1,9 @@
--- `hrp::then` meets its contract. Assumes nothing.
+-- `refusal::and_then` meets its contract. Assumes nothing.
 use mathlib.Core.Path.{sym, _∙_}
-use Rattle.refusal.proofs.Tables.{then-done, then-refused}
 use borrow.Author.Needs.{needs}
-use Rattle.hrp.proofs.then.Statement.{statement}
-use Rattle.hrp.proofs.then.Tie as tie
+use Rattle.refusal.proofs.Tables.{then-done, then-refused}
+use Rattle.refusal.proofs.and_then.Statement.{statement}
+use Rattle.refusal.proofs.and_then.Tie as tie
 
 enum-told : tie.Need-enum-told
 enum-told c = search needs
@@ -17,5 +17,5 @@ returns c = sym (then-done _ _ (c .enum-told .given .1))
 returns-2 : tie.Need-returns-2
 returns-2 c = c .enum-told2 .given .1 ∙ sym (then-refused _ _ _ (c .enum-told2 .given .1))
 
-pub then-spec : {M : Type 1} → statement M
-then-spec = tie.close (tie.spec enum-told enum-told-2 returns returns-2)
+pub and-then-spec : {M : Type 1} → statement M
+and-then-spec = tie.close (tie.spec enum-told enum-told-2 returns returns-2)

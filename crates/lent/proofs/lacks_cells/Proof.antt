@@ -1,8 +1,8 @@
--- `parity::lacks_cells` meets its contract. Assumes nothing.
+-- `lent::lacks_cells` meets its contract. Assumes nothing.
 use borrow.Author.Needs.{needs}
-use Rattle.parity.proofs.Laws.{no-cells, cells-lack}
-use Rattle.parity.proofs.lacks_cells.Statement.{statement}
-use Rattle.parity.proofs.lacks_cells.Tie as tie
+use Rattle.lent.proofs.Sizes.{no-cells, cells-lack}
+use Rattle.lent.proofs.lacks_cells.Statement.{statement}
+use Rattle.lent.proofs.lacks_cells.Tie as tie
 
 returns : tie.Need-returns
 returns c = no-cells _ _ (c .if1 .taken)
