@@ -1,0 +1,42 @@
+-- `hierarchy::judge` meets its contract. Assumes nothing.
+use borrow.Author.Needs.{needs}
+use Rattle.hierarchy.proofs.Answers.{judge-said}
+use Rattle.hierarchy.proofs.judge.Statement.{statement}
+use Rattle.hierarchy.proofs.judge.Tie as tie
+
+sized-requires : tie.Need-sized-requires
+sized-requires c κs = search needs
+
+judge-rooms-requires : tie.Need-judge-rooms-requires
+judge-rooms-requires c κs = search needs
+
+judge-shape-requires : tie.Need-judge-shape-requires
+judge-shape-requires c κs = search needs
+
+judge-rule-requires : tie.Need-judge-rule-requires
+judge-rule-requires c κs = search needs
+
+and-then-requires : tie.Need-and-then-requires
+and-then-requires c κs = search needs
+
+and-then-requires-2 : tie.Need-and-then-requires-2
+and-then-requires-2 c κs = search needs
+
+and-then-requires-3 : tie.Need-and-then-requires-3
+and-then-requires-3 c κs = search needs
+
+returns : tie.Need-returns
+returns c = judge-said _ _ _ _ _ _ _ _ _ _ _ _ (c .before .before .before .before .before .before .sized .ensures) (c .before .before .before .before .before .judge-rooms .ensures) (c .before .before .before .before .judge-shape .ensures) (c .before .before .before .judge-rule .ensures) (c .before .before .and-then .ensures) (c .before .and-then2 .ensures) (c .and-then3 .ensures)
+
+pub judge-spec : {M : Type 1} → statement M
+judge-spec =
+    tie.close
+    (tie.spec
+    sized-requires
+    judge-rooms-requires
+    judge-shape-requires
+    judge-rule-requires
+    and-then-requires
+    and-then-requires-2
+    and-then-requires-3
+    returns)

@@ -1,0 +1,418 @@
+// Hierarchical clustering asset allocation on a given covariance.
+
+use distances::Measure;
+use linkage::Distance;
+use linkage::Linkage;
+use refusal::Outcome;
+use refusal::Refusal;
+use sharing::Metric;
+use tree::Node;
+ghost use mathlib.Core.Path.{_≡_};
+ghost use mathlib.Core.Bool.{true, _&&_, _||_};
+ghost use Prim.Native.Nat.{_-_, _*_, _≤_};
+ghost use lib.ListN.{length};
+ghost use Rattle.arithmetic.specs.Constants.{pz};
+ghost use Rattle.refusal.specs.Table.{first};
+ghost use Rattle.lent.specs.Lent.{laid};
+ghost use Rattle.linkage.specs.Merge.{mergeRows};
+ghost use Rattle.clusters.specs.Shares.{weightsIn};
+ghost use Rattle.tree.specs.Rows.{isTree};
+ghost use Rattle.parity.specs.Parity.{treeDistances};
+ghost use Rattle.parity.specs.Steps.{Assets};
+ghost use Rattle.sharing.specs.Allot.{sharesOf};
+ghost use Rattle.sharing.specs.Down.{isSharpe};
+ghost use Rattle.hierarchy.specs.Hierarchy.{rule, roomFor, roomLines, Laid, Answered, Cleared};
+ghost use Rattle.hierarchy.specs.Steps.{shapeLines, ruleLines, judgeTable, riskLines, Ruled, Judged, Exact, exact, Arranged, shareOutcome, Made};
+
+// The tree of n by n distances; room is for the distances of distances.
+fn link(
+    distance: Distance,
+    linkage: Linkage,
+    n: usize,
+    d: &[f64],
+    room: &mut [f64],
+    rows: &mut [usize],
+)
+    requires { ⌜ n ≤ 64 ⌝ }
+    requires { ⌜ length (now d) ≡ n * n ⌝ }
+    requires { ⌜ length (now room) ≡ n * n ⌝ }
+    requires { ⌜ length (now rows) ≡ 2 * (n - 1) ⌝ }
+    ensures { λ _. ⌜ now (rows .exit) ≡ mergeRows linkage n (treeDistances distance (now (d .entry)) n) ⌝ }
+{
+    match distance {
+        Distance::Correlation => {
+            linkage::linkage_children(d, n, n, linkage, rows);
+        }
+        Distance::DistanceOfDistances => {
+            distances::distance_of_distances(d, n, n, room);
+            linkage::linkage_children(&room[..], n, n, linkage, rows);
+        }
+    }
+}
+
+// The tree of given correlations, and its leaf order. Once the distances are made, the correlations' place is the room.
+fn arrange(
+    distance: Distance,
+    linkage: Linkage,
+    n: usize,
+    corr: &mut [f64],
+    distances: &mut [f64],
+    rows: &mut [usize],
+    order: &mut [usize],
+)
+    requires { ⌜ Assets n ⌝ }
+    requires { ⌜ length (now corr) ≡ n * n ⌝ }
+    requires { ⌜ length (now distances) ≡ n * n ⌝ }
+    requires { ⌜ length (now rows) ≡ 2 * (n - 1) ⌝ }
+    requires { ⌜ length (now order) ≡ n ⌝ }
+    ensures { λ _. ⌜ Arranged distance linkage (now (corr .entry)) n (now (rows .exit)) (now (order .exit)) ⌝ }
+{
+    distances::corr_to_distances(Measure::Hcaa, &corr[..], n, n, distances);
+    link(distance, linkage, n, &distances[..], corr, rows);
+    let last = 2 * n - 2;
+    tree::quasi_diagonalization(&rows[..], n, Node(last), order);
+}
+
+// With the distances in the front of some room.
+fn arrange_in(
+    distance: Distance,
+    linkage: Linkage,
+    n: usize,
+    corr: &mut [f64],
+    room: &mut [f64],
+    rows: &mut [usize],
+    order: &mut [usize],
+)
+    requires { ⌜ Assets n ⌝ }
+    requires { ⌜ length (now corr) ≡ n * n ⌝ }
+    requires { ⌜ length (now room) ≡ 4096 ⌝ }
+    requires { ⌜ length (now rows) ≡ 2 * (n - 1) ⌝ }
+    requires { ⌜ length (now order) ≡ n ⌝ }
+    ensures { λ _. ⌜ Arranged distance linkage (now (corr .entry)) n (now (rows .exit)) (now (order .exit)) ⌝ }
+{
+    let m = n * n;
+    arrange(distance, linkage, n, corr, &mut room[..m], rows, order);
+}
+
+// In a room of its own: two parts of scratch cannot be lent at once.
+fn grow(
+    distance: Distance,
+    linkage: Linkage,
+    n: usize,
+    corr: &mut [f64],
+    rows: &mut [usize],
+    order: &mut [usize],
+)
+    requires { ⌜ Assets n ⌝ }
+    requires { ⌜ length (now corr) ≡ n * n ⌝ }
+    requires { ⌜ length (now rows) ≡ 2 * (n - 1) ⌝ }
+    requires { ⌜ length (now order) ≡ n ⌝ }
+    ensures { λ _. ⌜ Arranged distance linkage (now (corr .entry)) n (now (rows .exit)) (now (order .exit)) ⌝ }
+{
+    let mut room = [0.0; 4096];
+    arrange_in(distance, linkage, n, corr, &mut room, rows, order);
+}
+
+// The weights down the tree; refuses a side or a cut cluster.
+fn share(
+    metric: Metric,
+    expected: &[f64],
+    given: bool,
+    clusters: usize,
+    cov: &[f64],
+    n: usize,
+    rows: &[usize],
+    weights: &mut [f64],
+) -> Outcome
+    requires { ⌜ Assets n ⌝ }
+    requires { ⌜ Ruled (rule metric (now expected) given clusters) n ⌝ }
+    requires { ⌜ length (now cov) ≡ n * n ⌝ }
+    requires { ⌜ isTree (now rows) n ≡ true ⌝ }
+    requires { ⌜ length (now weights) ≡ n ⌝ }
+    ensures { λ r. ⌜ r ≡ shareOutcome (rule metric (now (expected .entry)) given clusters) (now (cov .entry)) n (now (rows .entry)) ⌝ }
+    ensures { λ r. ⌜ now (weights .exit) ≡ laid pz (shareOutcome (rule metric (now (expected .entry)) given clusters) (now (cov .entry)) n (now (rows .entry))) n (weightsIn (sharesOf metric (now (expected .entry)) (now (cov .entry)) (now (rows .entry)) n clusters)) ⌝ }
+{
+    lent::told(sharing::allocate_down_tree(
+        metric,
+        expected,
+        given,
+        cov,
+        n,
+        n,
+        rows,
+        n,
+        clusters,
+        weights,
+    ))
+}
+
+// All the steps, into buffers of just their sizes: a variance is refused by the correlations, a side or a cut cluster by the weights.
+fn work(
+    metric: Metric,
+    expected: &[f64],
+    given: bool,
+    clusters: usize,
+    distance: Distance,
+    linkage: Linkage,
+    cov: &[f64],
+    n: usize,
+    rows: &mut [usize],
+    order: &mut [usize],
+    weights: &mut [f64],
+    scratch: &mut [f64],
+) -> Outcome
+    requires { ⌜ Exact n (now cov) (now rows) (now order) (now weights) (now scratch) ⌝ }
+    requires { ⌜ Ruled (rule metric (now expected) given clusters) n ⌝ }
+    ensures { λ r. ⌜ Made (rule metric (now (expected .entry)) given clusters) distance linkage (now (cov .entry)) n r (now (rows .exit)) (now (order .exit)) (now (weights .exit)) ⌝ }
+{
+    let low = lent::told(stats::cov2corr(cov, n, n, scratch));
+    let Outcome::Done = low else {
+        return low;
+    };
+    grow(distance, linkage, n, scratch, rows, order);
+    share(
+        metric,
+        expected,
+        given,
+        clusters,
+        cov,
+        n,
+        &rows[..],
+        weights,
+    )
+}
+
+// Every entry of every lent buffer is zero.
+pub fn clear_all(rows: &mut [usize], order: &mut [usize], weights: &mut [f64], scratch: &mut [f64])
+    ensures { λ _. ⌜ Cleared (roomFor (length (now (rows .entry))) (length (now (order .entry))) (length (now (weights .entry))) (length (now (scratch .entry)))) (now (rows .exit)) (now (order .exit)) (now (weights .exit)) (now (scratch .exit)) ⌝ }
+{
+    lent::clear_numbers(rows);
+    lent::clear_numbers(order);
+    lent::clear(weights);
+    lent::clear(scratch); // and what was worked out in it
+}
+
+// The steps, and zeros at the end in all that is not the answer.
+fn settle(
+    metric: Metric,
+    expected: &[f64],
+    given: bool,
+    clusters: usize,
+    distance: Distance,
+    linkage: Linkage,
+    cov: &[f64],
+    n: usize,
+    rows: &mut [usize],
+    order: &mut [usize],
+    weights: &mut [f64],
+    scratch: &mut [f64],
+) -> Outcome
+    requires { ⌜ Exact n (now cov) (now rows) (now order) (now weights) (now scratch) ⌝ }
+    requires { ⌜ Ruled (rule metric (now expected) given clusters) n ⌝ }
+    ensures { λ r. ⌜ r ≡ first (riskLines (rule metric (now (expected .entry)) given clusters) distance linkage (now (cov .entry)) n) ⌝ }
+    ensures { λ r. ⌜ Laid (first (riskLines (rule metric (now (expected .entry)) given clusters) distance linkage (now (cov .entry)) n)) (rule metric (now (expected .entry)) given clusters) distance linkage (now (cov .entry)) n (exact n) (now (rows .exit)) (now (order .exit)) (now (weights .exit)) (now (scratch .exit)) ⌝ }
+{
+    let said = work(
+        metric,
+        expected,
+        given,
+        clusters,
+        distance,
+        linkage,
+        cov,
+        n,
+        rows,
+        order,
+        weights,
+        scratch,
+    );
+    let Outcome::Done = said else {
+        clear_all(rows, order, weights, scratch);
+        return said;
+    };
+    lent::clear(scratch); // correlations, or distances of distances, were in it
+    said
+}
+
+// The steps, in the fronts of larger buffers, which come in zero.
+fn run(
+    metric: Metric,
+    expected: &[f64],
+    given: bool,
+    clusters: usize,
+    distance: Distance,
+    linkage: Linkage,
+    cov: &[f64],
+    n: usize,
+    rows: &mut [usize],
+    order: &mut [usize],
+    weights: &mut [f64],
+    scratch: &mut [f64],
+) -> Outcome
+    requires { ⌜ Judged n (length (now cov)) (roomFor (length (now rows)) (length (now order)) (length (now weights)) (length (now scratch))) ⌝ }
+    requires { ⌜ Ruled (rule metric (now expected) given clusters) n ⌝ }
+    requires { ⌜ Cleared (roomFor (length (now rows)) (length (now order)) (length (now weights)) (length (now scratch))) (now rows) (now order) (now weights) (now scratch) ⌝ }
+    ensures { λ r. ⌜ r ≡ first (riskLines (rule metric (now (expected .entry)) given clusters) distance linkage (now (cov .entry)) n) ⌝ }
+    ensures { λ r. ⌜ Laid (first (riskLines (rule metric (now (expected .entry)) given clusters) distance linkage (now (cov .entry)) n)) (rule metric (now (expected .entry)) given clusters) distance linkage (now (cov .entry)) n (roomFor (length (now (rows .entry))) (length (now (order .entry))) (length (now (weights .entry))) (length (now (scratch .entry)))) (now (rows .exit)) (now (order .exit)) (now (weights .exit)) (now (scratch .exit)) ⌝ }
+{
+    let k = 2 * (n - 1);
+    let m = n * n;
+    settle(
+        metric,
+        expected,
+        given,
+        clusters,
+        distance,
+        linkage,
+        cov,
+        n,
+        &mut rows[..k],
+        &mut order[..n],
+        &mut weights[..n],
+        &mut scratch[..m],
+    )
+}
+
+// What the sizes of the lent buffers refuse.
+pub fn judge_rooms(n: usize, rows: usize, order: usize, weights: usize, scratch: usize) -> Outcome
+    ensures { λ r. ⌜ r ≡ first (roomLines n (roomFor rows order weights scratch)) ⌝ }
+{
+    let o = refusal::refuse(
+        scratch < lent::LEAST_SCRATCH,
+        Refusal::ShortBuffer,
+        Outcome::Done,
+    );
+    let o = refusal::refuse(weights < n, Refusal::ShortBuffer, o);
+    let o = refusal::refuse(order < n, Refusal::ShortBuffer, o);
+    refusal::refuse(lent::lacks_rows(rows, n), Refusal::ShortBuffer, o)
+}
+
+// No assets, then another size than theirs.
+fn judge_shape(rows_in: usize, columns: usize) -> Outcome
+    ensures { λ r. ⌜ r ≡ first (shapeLines «rows_in» columns) ⌝ }
+{
+    let o = refusal::refuse(
+        rows_in != columns,
+        Refusal::DimensionMismatch,
+        Outcome::Done,
+    );
+    refusal::refuse(columns == 0, Refusal::NoData, o)
+}
+
+// As calls, these leave no branch where they stand.
+fn both(x: bool, y: bool) -> bool
+    ensures { λ r. ⌜ r ≡ (x && y) ⌝ }
+{
+    if x { y } else { false }
+}
+
+fn either(x: bool, y: bool) -> bool
+    ensures { λ r. ⌜ r ≡ (x || y) ⌝ }
+{
+    if x { true } else { y }
+}
+
+fn is_sharpe(metric: Metric) -> bool
+    ensures { λ r. ⌜ r ≡ isSharpe metric ⌝ }
+{
+    match metric {
+        Metric::MinimumVariance => false,
+        Metric::MinimumStandardDeviation => false,
+        Metric::SharpeRatio => true,
+        Metric::EqualWeighting => false,
+    }
+}
+
+// What Sharpe expects, then the count of clusters.
+fn judge_rule(metric: Metric, expected: &[f64], given: bool, clusters: usize, n: usize) -> Outcome
+    ensures { λ r. ⌜ r ≡ first (ruleLines (rule metric (now (expected .entry)) given clusters) n) ⌝ }
+{
+    let sharpe = is_sharpe(metric);
+    let unexpected = both(sharpe, both(given, expected.len() != n));
+    let missing = both(sharpe, !given);
+    let no_count = either(clusters == 0, n < clusters);
+    let count = Refusal::InvalidNumClusters {
+        requested: clusters,
+        assets: n,
+    };
+    let o = refusal::refuse(no_count, count, Outcome::Done);
+    let o = refusal::refuse(missing, Refusal::MissingExpectedReturnsForSharpe, o);
+    refusal::refuse(unexpected, Refusal::DimensionMismatch, o)
+}
+
+// What is refused before anything is worked out.
+fn judge(
+    len: usize,
+    rows_in: usize,
+    columns: usize,
+    metric: Metric,
+    expected: &[f64],
+    given: bool,
+    clusters: usize,
+    rows: usize,
+    order: usize,
+    weights: usize,
+    scratch: usize,
+) -> Outcome
+    ensures { λ r. ⌜ r ≡ first (judgeTable (rule metric (now (expected .entry)) given clusters) len «rows_in» columns (roomFor rows order weights scratch)) ⌝ }
+{
+    let sized = lent::sized(len, rows_in, columns);
+    let rooms = judge_rooms(columns, rows, order, weights, scratch);
+    let shape = judge_shape(rows_in, columns);
+    let ruled = judge_rule(metric, expected, given, clusters, columns);
+    refusal::and_then(
+        sized,
+        refusal::and_then(rooms, refusal::and_then(shape, ruled)),
+    )
+}
+
+// The weights of a covariance of as many assets as it has columns, with their tree and its leaf order.
+pub fn allocate_covariance(
+    covariance: &[f64],
+    rows_in: usize,
+    columns: usize,
+    metric: Metric,
+    expected: &[f64],
+    expected_given: bool,
+    clusters: usize,
+    distance: Distance,
+    linkage: Linkage,
+    rows: &mut [usize],
+    order: &mut [usize],
+    weights: &mut [f64],
+    scratch: &mut [f64],
+) -> Outcome
+    ensures { λ r. ⌜ Answered (rule metric (now (expected .entry)) «expected_given» clusters) distance linkage (now (covariance .entry)) «rows_in» columns (roomFor (length (now (rows .entry))) (length (now (order .entry))) (length (now (weights .entry))) (length (now (scratch .entry)))) r (now (rows .exit)) (now (order .exit)) (now (weights .exit)) (now (scratch .exit)) ⌝ }
+{
+    let said = judge(
+        covariance.len(),
+        rows_in,
+        columns,
+        metric,
+        expected,
+        expected_given,
+        clusters,
+        rows.len(),
+        order.len(),
+        weights.len(),
+        scratch.len(),
+    );
+    clear_all(rows, order, weights, scratch);
+    let Outcome::Done = said else {
+        return said;
+    };
+    run(
+        metric,
+        expected,
+        expected_given,
+        clusters,
+        distance,
+        linkage,
+        covariance,
+        columns,
+        rows,
+        order,
+        weights,
+        scratch,
+    )
+}
