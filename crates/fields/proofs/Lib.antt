@@ -1,0 +1,3 @@
+pub mod Every
+pub mod Pieces
+pub mod Digits

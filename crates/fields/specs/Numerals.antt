@@ -1,0 +1,48 @@
+-- Numerals in bases 10 and 16. Definitions only.
+use Prim.Native.Nat.{ℕ, _+_, _*_, _-_}
+use mathlib.Core.Bool.{Bool, cond, _&&_}
+use mathlib.Core.List.{List, [], _∷_}
+use lib.Dec.{leb, ltb, eqb}
+use lib.ListN.{length}
+use lib.Ieee.{Float, binary64, ofBits}
+use Rattle.fields.specs.Split.{all}
+use Rattle.fields.specs.declared.Cell.{Cell}
+use Rattle.fields.specs.declared.Cell.the-variants as cell
+use Rattle.fields.specs.declared.Numeral.{Numeral}
+use Rattle.fields.specs.declared.Numeral.the-variants as numeral
+
+-- what a digit is worth: 0 to 9, then a to f; 16 where the byte is no digit
+unfoldable pub digit : ℕ → ℕ
+digit b = cond (leb 48 b && leb b 57) (b - 48) (cond (leb 97 b && leb b 102) (b - 87) 16)
+
+-- a digit of a base up to 16
+abbrev pub inBase : ℕ → ℕ → Bool
+inBase base b = ltb (digit b) base
+
+-- the number that digits spell, the first the highest, after digits worth n
+unfoldable pub number : ℕ → ℕ → List ℕ → ℕ
+unfolding digit
+number base n [] = n
+number base n (b ∷ w) = number base (n * base + digit b) w
+
+-- "each cell 16 lower-case hex digits" ..
+unfoldable pub isCell : List ℕ → Bool
+unfolding digit all
+isCell w = eqb (length w) 16 && all (inBase 16) w
+
+-- .. the bits of a double
+abbrev pub cellOf : List ℕ → Float
+cellOf w = ofBits binary64 (number 16 0 w)
+
+unfoldable pub cellRead : List ℕ → Cell
+unfolding isCell number
+cellRead w = cond (isCell w) (cell.Of (cellOf w)) cell.Malformed
+
+-- "1 to 9 digits"
+unfoldable pub isNumeral : List ℕ → Bool
+unfolding digit all
+isNumeral w = leb 1 (length w) && (leb (length w) 9 && all (inBase 10) w)
+
+unfoldable pub numeralRead : List ℕ → Numeral
+unfolding isNumeral number
+numeralRead w = cond (isNumeral w) (numeral.Of (number 10 0 w)) numeral.Malformed

@@ -1,0 +1,36 @@
+-- A list of bytes cut at a byte: "lines ended by a newline, fields parted by tabs". Definitions only.
+use Prim.Native.Nat.{ℕ, _+_}
+use mathlib.Core.Bool.{Bool, true, cond, _&&_}
+use mathlib.Core.List.{List, [], _∷_}
+use lib.Dec.{eqb}
+use lib.ListN.{length, drop, getD}
+
+-- b put in front of the first piece
+unfoldable pub onto : ℕ → List (List ℕ) → List (List ℕ)
+onto b [] = []
+onto b (w ∷ ws) = (b ∷ w) ∷ ws
+
+-- the pieces between the d's: one more than there are d's
+unfoldable pub split : ℕ → List ℕ → List (List ℕ)
+unfolding onto
+split d [] = [] ∷ []
+split d (b ∷ s) = cond (eqb b d) ([] ∷ split d s) (onto b (split d s))
+
+-- piece k, counted from 0; nothing where there are not as many
+abbrev pub piece : ℕ → List ℕ → ℕ → List ℕ
+piece d s k = getD (split d s) k []
+
+-- the first piece
+unfoldable pub upto : ℕ → List ℕ → List ℕ
+upto d [] = []
+upto d (b ∷ s) = cond (eqb b d) [] (b ∷ upto d s)
+
+-- the place of the first d from a place on, or the end
+unfoldable pub endOf : ℕ → List ℕ → ℕ → ℕ
+unfolding upto
+endOf d s from = from + length (upto d (drop from s))
+
+-- every entry passes the test
+unfoldable pub all : {A : Type 0} → (A → Bool) → List A → Bool
+all f [] = true
+all f (a ∷ l) = f a && all f l

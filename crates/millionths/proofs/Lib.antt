@@ -1,0 +1,5 @@
+pub mod Pattern
+pub mod Whole
+pub mod Lists
+pub mod Meaning
+pub mod Figures
