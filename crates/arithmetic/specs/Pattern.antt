@@ -1,4 +1,4 @@
--- The bit pattern of a double above zero and finite: how many units of 2^-1074 it is worth. Only the square root's private functions cite this. Definitions only.
+-- The bit pattern of a double above zero and finite: how many units of 2^-1074 it is worth. Only private functions cite this: the square root's and the millionths'. Definitions only.
 use mathlib.Core.Path.{_≡_}
 use Prim.Native.Nat.{ℕ, zero, suc, _+_, _*_, _/_, _%_, _^_, _≤_, _<_}
 

@@ -1,11 +1,10 @@
 -- The rule's lines, and the sharing on buffers of just the sizes asked: it is refused for a side or a cut cluster alone. Assumes nothing.
 use Prim.Native.Nat.{ℕ, _*_}
 use mathlib.Core.Path.{_≡_, refl, ap, _∙_}
-use mathlib.Core.Bool.{Bool, true, false, not, _&&_, _||_}
+use mathlib.Core.Bool.{true}
 use mathlib.Core.List.{List}
 use native.Mathlib.Omega.{arith}
-use borrow.Author.Tests.{ltb-false, eqb-false, eqb-true, not-false}
-use lib.Dec.{eqb}
+use borrow.Author.Tests.{ltb-false, eqb-false}
 use lib.ListN.{length}
 use lib.Ieee.{Float}
 use Rattle.arithmetic.specs.Constants.{pz}
@@ -21,20 +20,11 @@ use Rattle.clusters.specs.Shares.{weightsIn}
 use Rattle.parity.specs.Steps.{Assets}
 use Rattle.sharing.specs.Allot.{sharesOf}
 use Rattle.sharing.specs.Down.{Call, call, downOutcome, downAnswer, downWeights}
-use Rattle.sharing.proofs.Judged.{Right, down-as-shares}
+use Rattle.sharing.proofs.Judged.{Right, down-as-shares, neither, expecting}
 use Rattle.hierarchy.specs.Hierarchy.{Rule, expectedLines}
 use Rattle.hierarchy.specs.Steps.{ruleLines, Ruled, shareOutcome}
 
 -- ---- the rule
-
-neither : (a b : Bool) → (a || b) ≡ false → (a ≡ false) × (b ≡ false)
-neither true b e = absurd (let z : _≡_ {A = ℕ} 0 1 = cc in omega arith)
-neither false b e = (refl, e)
-
-expecting : (b g : Bool) (len n : ℕ) → (b && (g && not (eqb len n))) ≡ false → (b && not g) ≡ false → b ≡ true → (g ≡ true) × (len ≡ n)
-expecting false g len n p q h = absurd (let z : _≡_ {A = ℕ} 0 1 = cc in omega arith)
-expecting true false len n p q h = absurd (let z : _≡_ {A = ℕ} 0 1 = cc in omega arith)
-expecting true true len n p q h = (refl, eqb-true len n (not-false (eqb len n) p))
 
 pub ruled : (q : Rule) (n : ℕ) → first (ruleLines q n) ≡ Done → Ruled q n
 unfolding ruleLines expectedLines

@@ -8,7 +8,7 @@ use refusal::Refusal;
 use sharing::Metric;
 use tree::Node;
 ghost use mathlib.Core.Path.{_≡_};
-ghost use mathlib.Core.Bool.{true, _&&_, _||_};
+ghost use mathlib.Core.Bool.{true};
 ghost use Prim.Native.Nat.{_-_, _*_, _≤_};
 ghost use lib.ListN.{length};
 ghost use Rattle.arithmetic.specs.Constants.{pz};
@@ -299,38 +299,14 @@ fn judge_shape(rows_in: usize, columns: usize) -> Outcome
     refusal::refuse(columns == 0, Refusal::NoData, o)
 }
 
-// As calls, these leave no branch where they stand.
-fn both(x: bool, y: bool) -> bool
-    ensures { λ r. ⌜ r ≡ (x && y) ⌝ }
-{
-    if x { y } else { false }
-}
-
-fn either(x: bool, y: bool) -> bool
-    ensures { λ r. ⌜ r ≡ (x || y) ⌝ }
-{
-    if x { true } else { y }
-}
-
-fn is_sharpe(metric: Metric) -> bool
-    ensures { λ r. ⌜ r ≡ isSharpe metric ⌝ }
-{
-    match metric {
-        Metric::MinimumVariance => false,
-        Metric::MinimumStandardDeviation => false,
-        Metric::SharpeRatio => true,
-        Metric::EqualWeighting => false,
-    }
-}
-
 // What Sharpe expects, then the count of clusters.
 fn judge_rule(metric: Metric, expected: &[f64], given: bool, clusters: usize, n: usize) -> Outcome
     ensures { λ r. ⌜ r ≡ first (ruleLines (rule metric (now (expected .entry)) given clusters) n) ⌝ }
 {
-    let sharpe = is_sharpe(metric);
-    let unexpected = both(sharpe, both(given, expected.len() != n));
-    let missing = both(sharpe, !given);
-    let no_count = either(clusters == 0, n < clusters);
+    let sharpe = sharing::is_sharpe(metric);
+    let unexpected = refusal::both(sharpe, refusal::both(given, expected.len() != n));
+    let missing = refusal::both(sharpe, !given);
+    let no_count = refusal::either(clusters == 0, n < clusters);
     let count = Refusal::InvalidNumClusters {
         requested: clusters,
         assets: n,

@@ -6,7 +6,7 @@ use linkage::Distance;
 use refusal::Outcome;
 use refusal::Refusal;
 ghost use mathlib.Core.Path.{_≡_};
-ghost use mathlib.Core.Bool.{true, false, _&&_};
+ghost use mathlib.Core.Bool.{true, false};
 ghost use mathlib.Core.List.{[]};
 ghost use Prim.Native.Nat.{_*_, _≤_};
 ghost use lib.ListN.{length};
@@ -19,25 +19,18 @@ ghost use Rattle.parity.specs.Parity.{roomFor};
 ghost use Rattle.hrp.specs.Hrp.{job, Allocated};
 ghost use Rattle.hrp.specs.Steps.{shapesJudged, judgeTable, sourceSizes, Estimated, Sampled, Prepared, without, Ready, Finished};
 
-// Whether both hold.
-fn both(x: bool, y: bool) -> bool
-    ensures { λ r. ⌜ r ≡ (x && y) ⌝ }
-{
-    if x { y } else { false }
-}
-
 // No matrix, no assets, and columns or a covariance that are not theirs.
 fn judge_shapes(n: usize, prices: Shape, returns: Shape, covariance: Shape) -> Outcome
     ensures { λ r. ⌜ r ≡ first (shapesJudged n prices returns covariance) ⌝ }
 {
-    let alone = both(inputs::is_absent(returns), inputs::is_absent(covariance));
+    let alone = refusal::both(inputs::is_absent(returns), inputs::is_absent(covariance));
     let o = refusal::refuse(
         inputs::has_other_size(covariance, n),
         Refusal::DimensionMismatch,
         Outcome::Done,
     );
     let o = refusal::refuse(
-        both(alone, inputs::has_other_columns(prices, n)),
+        refusal::both(alone, inputs::has_other_columns(prices, n)),
         Refusal::DimensionMismatch,
         o,
     );
@@ -47,7 +40,11 @@ fn judge_shapes(n: usize, prices: Shape, returns: Shape, covariance: Shape) -> O
         o,
     );
     let o = refusal::refuse(n == 0, Refusal::NoData, o);
-    refusal::refuse(both(inputs::is_absent(prices), alone), Refusal::NoData, o)
+    refusal::refuse(
+        refusal::both(inputs::is_absent(prices), alone),
+        Refusal::NoData,
+        o,
+    )
 }
 
 // What the sizes and shapes alone refuse.

@@ -1,6 +1,7 @@
 // What a call refuses, by document 01's numbers, and how a call went.
 
 ghost use mathlib.Core.Path.{_≡_};
+ghost use mathlib.Core.Bool.{_&&_, _||_};
 ghost use lib.ListN.{getD};
 ghost use Rattle.refusal.specs.Refusal.{numberOf, valuesOf};
 ghost use Rattle.refusal.specs.Table.{orElse, andThen};
@@ -124,4 +125,17 @@ pub fn and_then(said: Outcome, rest: Outcome) -> Outcome
         Outcome::Done => rest,
         Outcome::Refused(_) => said,
     }
+}
+
+// Tests of a line joined. As calls, these leave no branch where they stand.
+pub fn both(x: bool, y: bool) -> bool
+    ensures { λ r. ⌜ r ≡ (x && y) ⌝ }
+{
+    if x { y } else { false }
+}
+
+pub fn either(x: bool, y: bool) -> bool
+    ensures { λ r. ⌜ r ≡ (x || y) ⌝ }
+{
+    if x { true } else { y }
 }

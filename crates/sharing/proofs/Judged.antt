@@ -135,14 +135,14 @@ pub record Right (q : Call) (room : ℕ) : Type 0 where
   pub cut : q .clusters ≤ q .assets
   pub expects : isSharpe (q .metric) ≡ true → (q .expected-given ≡ true) × (length (q .expected) ≡ q .assets)
 
-neither : (a b : Bool) → (a || b) ≡ false → (a ≡ false) × (b ≡ false)
+pub neither : (a b : Bool) → (a || b) ≡ false → (a ≡ false) × (b ≡ false)
 neither true b e = absurd (let z : _≡_ {A = ℕ} 0 1 = cc in omega arith)
 neither false b e = (refl, e)
 
 same-number : (m n : ℕ) → not (eqb m n) ≡ false → m ≡ n
 same-number m n e = eqb-true m n (not-false (eqb m n) e)
 
-expecting : (b g : Bool) (len n : ℕ) → (b && (g && not (eqb len n))) ≡ false → (b && not g) ≡ false → b ≡ true → (g ≡ true) × (len ≡ n)
+pub expecting : (b g : Bool) (len n : ℕ) → (b && (g && not (eqb len n))) ≡ false → (b && not g) ≡ false → b ≡ true → (g ≡ true) × (len ≡ n)
 expecting false g len n p q h = absurd (let z : _≡_ {A = ℕ} 0 1 = cc in omega arith)
 expecting true false len n p q h = absurd (let z : _≡_ {A = ℕ} 0 1 = cc in omega arith)
 expecting true true len n p q h = (refl, same-number len n p)

@@ -7,7 +7,6 @@ use refusal::Refusal;
 use tree::Asset;
 use tree::Node;
 ghost use mathlib.Core.Path.{_≡_};
-ghost use mathlib.Core.Bool.{_&&_, _||_};
 ghost use Prim.Native.Nat.{ℕ, _≤_, _<_};
 ghost use lib.ListN.{length, getD, set};
 ghost use Rattle.refusal.specs.Table.{first};
@@ -74,19 +73,6 @@ pub fn metric_named(name: &[u8]) -> NamedMetric
     NamedMetric::Refused(Refusal::UnknownAllocationMetric)
 }
 
-// As calls, these leave no branch where they stand.
-fn both(x: bool, y: bool) -> bool
-    ensures { λ r. ⌜ r ≡ (x && y) ⌝ }
-{
-    if x { y } else { false }
-}
-
-fn either(x: bool, y: bool) -> bool
-    ensures { λ r. ⌜ r ≡ (x || y) ⌝ }
-{
-    if x { true } else { y }
-}
-
 // A factor that is not finite is a half.
 fn bounded(f: f64) -> f64
     ensures { λ r. ⌜ r ≡ bounded f ⌝ }
@@ -119,7 +105,7 @@ fn by_risk(l: f64, r: f64) -> Split
 fn by_ratio(s: f64, t: f64, l: f64, r: f64) -> Split
     ensures { λ o. ⌜ o ≡ byRatio s t l r ⌝ }
 {
-    let fair = both(both(0.0 <= s, 0.0 <= t), 0.0 < s + t);
+    let fair = refusal::both(refusal::both(0.0 <= s, 0.0 <= t), 0.0 < s + t);
     if fair {
         return split_by(s, t, s / (s + t));
     }
@@ -389,7 +375,7 @@ fn share(
     )
 }
 
-fn is_sharpe(metric: Metric) -> bool
+pub fn is_sharpe(metric: Metric) -> bool
     ensures { λ r. ⌜ r ≡ isSharpe metric ⌝ }
 {
     match metric {
@@ -416,10 +402,10 @@ fn judge(
     ensures { λ r. ⌜ r ≡ first (callTable (call metric (now (expected .entry)) given (now (cov .entry)) height width (now (rows .entry)) n clusters) room) ⌝ }
 {
     let sharpe = is_sharpe(metric);
-    let missing = both(sharpe, !given);
-    let unexpected = both(sharpe, both(given, expected.len() != n));
-    let other_size = either(height != n, width != n);
-    let no_count = either(clusters == 0, n < clusters);
+    let missing = refusal::both(sharpe, !given);
+    let unexpected = refusal::both(sharpe, refusal::both(given, expected.len() != n));
+    let other_size = refusal::either(height != n, width != n);
+    let no_count = refusal::either(clusters == 0, n < clusters);
     let count = Refusal::InvalidNumClusters {
         requested: clusters,
         assets: n,
