@@ -1,0 +1,4 @@
+pub mod Estimates
+pub mod Prices
+pub mod Judged
+pub mod Equal

@@ -1,0 +1,2 @@
+pub mod Hcaa
+pub mod Steps
