@@ -15,9 +15,9 @@ use Rattle.fields.specs.Split.{all}
 use Rattle.fields.specs.Numerals.{digit, inBase, number, isCell, cellOf, cellRead, isNumeral, numeralRead}
 use Rattle.fields.specs.Spelling.{spelledAfter}
 use Rattle.fields.specs.declared.Cell.{Cell}
-use Rattle.fields.specs.declared.Cell.the-variants as cell
 use Rattle.fields.specs.declared.Numeral.{Numeral}
 use Rattle.fields.specs.declared.Numeral.the-variants.{Malformed, Of}
+use Rattle.fields.specs.declared.Cell.the-variants as cell
 
 module _ (base n : ℕ) (w : List ℕ) (i : ℕ) where
   pub spelled-end : length w ≤ i → spelledAfter base n (drop i w) ≡ Of n

@@ -1,6 +1,6 @@
 -- `fields::spelled` meets its contract. The digits from place i on, after those that are worth n, spell the same. Assumes nothing.
 use Prim.Native.Nat.{_-_, _^_, _<_, _≤_}
-use mathlib.Core.Path.{_≡_, refl, sym, ap, _∙_}
+use mathlib.Core.Path.{_≡_, refl, sym, _∙_}
 use native.Mathlib.Omega.{arith}
 use borrow.Author.Needs.{needs}
 use lib.ListN.{length, drop}

@@ -1,0 +1,22 @@
+-- `reading::judge` meets its contract. Assumes nothing.
+use borrow.Author.Needs.{needs}
+use Rattle.refusal.proofs.Tables.{table, table-end}
+use Rattle.reading.specs.Walk.{sizeLines}
+use Rattle.reading.proofs.judge.Statement.{statement}
+use Rattle.reading.proofs.judge.Tie as tie
+
+refuse-requires : tie.Need-refuse-requires
+refuse-requires c κs = search needs
+
+refuse-requires-2 : tie.Need-refuse-requires-2
+refuse-requires-2 c κs = search needs
+
+refuse-requires-3 : tie.Need-refuse-requires-3
+refuse-requires-3 c κs = search needs
+
+returns : tie.Need-returns
+unfolding sizeLines
+returns c = simp (table, table-end) (cc)
+
+pub judge-spec : {M : Type 1} → statement M
+judge-spec = tie.close (tie.spec refuse-requires refuse-requires-2 refuse-requires-3 returns)
