@@ -1,0 +1,4 @@
+pub mod Job
+pub mod Listing
+pub mod Steps
+pub mod Write
