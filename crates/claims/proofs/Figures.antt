@@ -1,0 +1,247 @@
+-- Document 01, "Figures to check (P: proved)": its P figures as one table under one claim, computed from the definitions that the public functions' contracts cite. Assumes nothing.
+use mathlib.Core.Path.{_≡_, refl}
+use mathlib.Core.Bool.{Bool, true, false, _&&_}
+use mathlib.Core.List.{List, [], _∷_, _++_, map}
+use Prim.Native.Nat.{ℕ, _-_, _*_}
+use lib.Count.{trailingZeros}
+use lib.Dec.{eqb}
+use lib.ListN.{take, replicate}
+use lib.Ieee.{Float, nan, binary64, size, span as ieee-span, climb, odd, units, round, neg, add, sum, sub, mul, div, ofInt, lt, le, eq, isNan, ofFields, ofBits, toBits}
+use Rattle.arithmetic.specs.Constants.{pz}
+use Rattle.arithmetic.specs.Arithmetic.{minOf, maxOf, absOf, clampOf, finiteOf, oneOver}
+use Rattle.arithmetic.specs.Root.{isqrt, root}
+use Rattle.refusal.specs.Refusal.{numberOf, valuesOf}
+use Rattle.refusal.specs.Table.{first}
+use Rattle.refusal.specs.declared.Outcome.{Outcome}
+use Rattle.refusal.specs.declared.Outcome.the-variants as outcome
+use Rattle.lent.specs.Count.{count}
+use Rattle.lent.specs.Grid.{tab, grid, sumTo, sumOn, sumRows, anyTo}
+use Rattle.lent.specs.Range.{span, range}
+use Rattle.lent.specs.Lent.{overLimit, otherLength, tooBig, misfits, sizes, laid}
+use Rattle.lent.specs.declared.Shape.the-variants.{Absent, Of}
+use Rattle.text.specs.Bytes.{bytes, same, lower, lowered, isWord}
+use Rattle.fields.specs.Split.{onto, split, all as every}
+use Rattle.fields.specs.Numerals.{digit, number, isCell, numeralRead, isNumeral}
+use Rattle.millionths.specs.Millionths.{inMillionths, millionthsOf, inRange, millionthsTable, millionthsOutcome, millionthsIn, millionthsLaid}
+use Rattle.stats.specs.Covariance.{correlationCell, anyLow}
+use Rattle.distances.specs.Distances.{clamped, distanceOf, distanceCell, offDiagonal, square, between, betweenCell}
+use Rattle.tree.specs.Rows.{below, once, isTree}
+use Rattle.tree.specs.Tree.{grow, treeAt, leaves}
+use Rattle.tree.specs.Order as order
+use Rattle.linkage.specs.Names.{distanceNamed, linkageNamed}
+use Rattle.linkage.specs.Merge.{wardF, updateF, before, near, better, lesser, greater, offer, look, scanRow, scanFrom, scanAll, both, movable, moved, movedAll, merged, step, copied, numbered, start, stateAt, mergeRows}
+use Rattle.linkage.specs.Children.{childrenTable, childrenOutcome, childrenRows}
+use Rattle.linkage.specs.declared.Distance.{Distance}
+use Rattle.linkage.specs.declared.Distance.the-variants.{Correlation, DistanceOfDistances}
+use Rattle.linkage.specs.declared.Linkage.{Linkage}
+use Rattle.linkage.specs.declared.Linkage.the-variants.{Single, Complete, Average, Ward}
+use Rattle.reading.specs.Reading as reading
+use Rattle.reading.specs.declared.Asked.{Asked}
+use Rattle.reading.specs.declared.Asked.the-variants as asked
+use Rattle.reading.specs.declared.Reading.{Reading}
+use Rattle.reading.specs.declared.Reading.the-variants as read
+use Rattle.clusters.specs.Clusters.{recip, recipSum, shares, term, varianceOf, outside, anyLow as anyLowOf, riskTable, sizeTable, sharesOutcome, varianceOutcome, varianceAnswer}
+use Rattle.clusters.specs.Shares.{isNone, weightsIn}
+use Rattle.bisection.specs.Bisection as bisection
+use Rattle.sharing.specs.Names.{isTailRisk, metricNamed}
+use Rattle.sharing.specs.Split as sharing
+use Rattle.sharing.specs.Allot as allot
+use Rattle.sharing.specs.Down.{isSharpe}
+use Rattle.inputs.specs.Inputs.{absent, rowsIn, otherColumns, otherSize, matrixLines}
+use Rattle.parity.specs.Parity as parity
+use Rattle.hierarchy.specs.Hierarchy as hierarchy
+use Rattle.hrp.specs.Hrp as hrp
+use Rattle.hcaa.specs.Hcaa as hcaa
+use Rattle.hcaa.specs.declared.Clusters.{Clusters}
+use Rattle.hcaa.specs.declared.Clusters.the-variants.{All, Count}
+
+-- ---- bits, and answers in them
+
+-- 0, 1/4, the double nearest 1/3, 1/2, 3/4, 1, 2, 3, infinity, NaN
+abbrev p0 : ℕ
+p0 = 0x0
+
+abbrev quarter : ℕ
+quarter = 0x3fd0_0000_0000_0000
+
+abbrev third : ℕ
+third = 0x3fd5_5555_5555_5555
+
+abbrev half : ℕ
+half = 0x3fe0_0000_0000_0000
+
+abbrev most : ℕ
+most = 0x3fe8_0000_0000_0000
+
+abbrev one : ℕ
+one = 0x3ff0_0000_0000_0000
+
+abbrev two : ℕ
+two = 0x4000_0000_0000_0000
+
+abbrev three : ℕ
+three = 0x4008_0000_0000_0000
+
+abbrev infinity : ℕ
+infinity = 0x7ff0_0000_0000_0000
+
+abbrev no : ℕ
+no = 0x7ff8_0000_0000_0000
+
+abbrev doubles : List ℕ → List Float
+doubles xs = map (ofBits binary64) xs
+
+abbrev bits : List Float → List ℕ
+bits xs = map (toBits binary64) xs
+
+-- 0, or the refusal's number and values
+abbrev told : Outcome → List ℕ
+told outcome.Done = 0 ∷ []
+told (outcome.Refused r) = numberOf r ∷ valuesOf r
+
+-- 2 assets, 0 off the diagonal
+abbrev diagonal : ℕ → ℕ → List Float
+diagonal a b = doubles (a ∷ p0 ∷ p0 ∷ b ∷ [])
+
+-- ---- merge rows and leaves
+
+-- 1 − 2^-40 and 1 − 2^-39
+abbrev below40 : ℕ
+below40 = 0x3fef_ffff_ffff_e000
+
+abbrev below39 : ℕ
+below39 = 0x3fef_ffff_ffff_c000
+
+-- the rows of 3 and of 4 assets, by their distances d01, d02, d12 and so on
+abbrev rows3 : ℕ → ℕ → ℕ → List ℕ
+rows3 x y z = childrenRows Single (doubles (p0 ∷ x ∷ y ∷ x ∷ p0 ∷ z ∷ y ∷ z ∷ p0 ∷ [])) 3 3 4
+
+abbrev alike4 : ℕ → List ℕ
+alike4 x = childrenRows Single (doubles (p0 ∷ x ∷ x ∷ x ∷ x ∷ p0 ∷ x ∷ x ∷ x ∷ x ∷ p0 ∷ x ∷ x ∷ x ∷ x ∷ p0 ∷ [])) 4 4 6
+
+abbrev nans : Linkage → List ℕ
+nans l = childrenRows l (replicate 9 nan) 3 3 4
+
+-- the leaves under the last of 3 assets' nodes
+abbrev leaves3 : List ℕ → List ℕ
+leaves3 rows = order.orderOf rows 3 4 3
+
+abbrev trees : List Bool
+trees =
+    -- "3 by 3 all NaN: rows [0,1],[2,3], leaves 2, 0, 1", by every linkage
+    same (nans Single) (0 ∷ 1 ∷ 2 ∷ 3 ∷ [])
+    ∷ same (nans Complete) (0 ∷ 1 ∷ 2 ∷ 3 ∷ [])
+    ∷ same (nans Average) (0 ∷ 1 ∷ 2 ∷ 3 ∷ [])
+    ∷ same (nans Ward) (0 ∷ 1 ∷ 2 ∷ 3 ∷ [])
+    ∷ same (leaves3 (nans Single)) (2 ∷ 0 ∷ 1 ∷ [])
+    -- "Four assets, every distance 1, single: [0,1],[2,3],[4,5]."
+    ∷ same (alike4 one) (0 ∷ 1 ∷ 2 ∷ 3 ∷ 4 ∷ 5 ∷ [])
+    -- "d01 = 1, d02 = d12 = 1 − 2^-40: [0,1] first."
+    ∷ same (take 2 (rows3 one below40 below40)) (0 ∷ 1 ∷ [])
+    -- "d01 = d02 = 1, d12 = 1 − 2^-39: [1,2] first."
+    ∷ same (take 2 (rows3 one one below39)) (1 ∷ 2 ∷ [])
+    ∷ []
+
+-- ---- HCAA
+
+-- n assets of this covariance: a metric, clusters, distance and linkage
+abbrev given : ℕ → List Float → List ℕ → Clusters → Distance → Linkage → hcaa.Job
+given n cov metric k d l = hcaa.job n [] Absent [] Absent cov (Of n n) [] false metric [] k [] d l
+
+-- what a call says; then, by its outcome, the bits of the weights, their millionths, and the leaf order, in buffers of just the sizes that n assets ask
+abbrev buffers : Outcome → hcaa.Job → ℕ → List ℕ
+buffers o j n =
+    let ws : List Float = laid pz o n (weightsIn (hierarchy.weightsOf (hcaa.usedRule j) (j .distance) (j .linkage) (hcaa.usedCovariance j) n)) in
+    told o ++ (bits ws ++ (millionthsLaid ws n ++ laid 0 o n (hierarchy.orderOf (j .distance) (j .linkage) (hcaa.usedCovariance j) n)))
+
+abbrev shared : hcaa.Job → ℕ → List ℕ
+shared j n = buffers (hcaa.outcomeOf j (hierarchy.roomFor (2 * (n - 1)) n n 8192)) j n
+
+abbrev pair : ℕ → ℕ → ℕ → List ℕ
+pair a b k = shared (given 2 (diagonal a b) (bytes "equal_weighting") (Count k) Correlation Single) 2
+
+-- "this input", with its clusters
+abbrev text : List ℕ → List ℕ
+text clusters =
+    bytes "hcaa\tequal_weighting\tsingle\tcorrelation\t" ++ clusters ++ bytes "\n"
+    ++ bytes "A\t3ff0000000000000\t3fe0000000000000\t0000000000000000\n"
+    ++ bytes "B\t3fe0000000000000\t3ff0000000000000\t0000000000000000\n"
+    ++ bytes "C\t0000000000000000\t0000000000000000\t3ff0000000000000\n"
+
+-- the call that a text asks for, by what is read in it
+abbrev clustersAs : Asked → Clusters
+clustersAs (asked.Count k) = Count k
+clustersAs asked.All = All
+clustersAs asked.Malformed = All
+
+abbrev called : Reading → List ℕ → List ℕ
+called (read.Refused r) t = numberOf r ∷ []
+called (read.Hrp n d) t = []
+called (read.Hcaa n l d) t =
+    shared (given n (take (n * n) (reading.covarianceLaid t 4096 64)) (reading.field (reading.line t 0) 1) (clustersAs (reading.clustersOf (reading.field (reading.line t 0) 4))) d l) n
+
+abbrev job : List ℕ → List ℕ
+job clusters = called (reading.readOf (text clusters) 4096 64) (text clusters)
+
+abbrev hcaas : List Bool
+hcaas =
+    -- the input prints these bits and millionths, and "order→C→A→B"
+    same (job (bytes "-")) (0 ∷ quarter ∷ quarter ∷ half ∷ 250000 ∷ 250000 ∷ 500000 ∷ 2 ∷ 0 ∷ 1 ∷ [])
+    ∷ same (job (bytes "3")) (0 ∷ quarter ∷ quarter ∷ half ∷ 250000 ∷ 250000 ∷ 500000 ∷ 2 ∷ 0 ∷ 1 ∷ [])
+    -- "The job above with 2 clusters: same weights"
+    ∷ same (job (bytes "2")) (0 ∷ quarter ∷ quarter ∷ half ∷ 250000 ∷ 250000 ∷ 500000 ∷ 2 ∷ 0 ∷ 1 ∷ [])
+    -- "with 1: each 3fd5555555555555, 333333 millionths."
+    ∷ same (job (bytes "1")) (0 ∷ third ∷ third ∷ third ∷ 333333 ∷ 333333 ∷ 333333 ∷ 2 ∷ 0 ∷ 1 ∷ [])
+    -- "Clusters 0 or 4: 6.", with the count asked and the assets
+    ∷ same (job (bytes "0")) (6 ∷ 0 ∷ 3 ∷ p0 ∷ p0 ∷ p0 ∷ 0 ∷ 0 ∷ 0 ∷ 0 ∷ 0 ∷ 0 ∷ [])
+    ∷ same (job (bytes "4")) (6 ∷ 4 ∷ 3 ∷ p0 ∷ p0 ∷ p0 ∷ 0 ∷ 0 ∷ 0 ∷ 0 ∷ 0 ∷ 0 ∷ [])
+    -- "HCAA equal, (infinity, 1): 2 clusters 1, 1 cluster 0.5 each."
+    ∷ same (pair infinity one 2) (1 ∷ p0 ∷ p0 ∷ 0 ∷ 0 ∷ 0 ∷ 0 ∷ [])
+    ∷ same (pair infinity one 1) (0 ∷ half ∷ half ∷ 500000 ∷ 500000 ∷ 0 ∷ 1 ∷ [])
+    ∷ []
+
+-- ---- HRP
+
+-- a covariance of n assets; what the call says, and the bits of the weights
+abbrev halving : Distance → ℕ → List Float → hrp.Job
+halving d n cov = hrp.job n [] Absent [] Absent cov (Of n n) [] false d
+
+abbrev weighed : Outcome → hrp.Job → ℕ → List ℕ
+weighed o j n = told o ++ bits (laid pz o n (weightsIn (parity.sharesOf (j .distance) (hrp.usedCovariance j) n)))
+
+abbrev halved : Distance → ℕ → List Float → List ℕ
+halved d n cov = weighed (hrp.outcomeOf (halving d n cov) (parity.roomFor (2 * (n - 1)) n n (n * n) (n * n) 8192)) (halving d n cov) n
+
+abbrev hrps : Distance → List Bool
+hrps d =
+    -- "HRP, diagonal covariance (1, 3): 0.75, 0.25."
+    same (halved d 2 (diagonal one three)) (0 ∷ most ∷ quarter ∷ [])
+    -- "(NaN, 1): 1, 0."
+    ∷ same (halved d 2 (diagonal no one)) (0 ∷ one ∷ p0 ∷ [])
+    -- "HRP (infinity, 1): 1"
+    ∷ same (halved d 2 (diagonal infinity one)) (1 ∷ p0 ∷ p0 ∷ [])
+    -- "one asset of infinite variance: weight 1."
+    ∷ same (halved d 1 (doubles (infinity ∷ []))) (0 ∷ one ∷ [])
+    ∷ []
+
+-- ---- roots
+
+abbrev roots : List Bool
+roots =
+    -- "Root of 2 is 3ff6a09e667f3bcd"
+    eqb (toBits binary64 (root (ofBits binary64 two))) 0x3ff6_a09e_667f_3bcd
+    -- "of 2^-1074 is 2^-537."
+    ∷ eqb (toBits binary64 (root (ofBits binary64 1))) 0x1e60_0000_0000_0000
+    ∷ []
+
+abbrev all : List Bool → Bool
+all [] = true
+all (b ∷ bs) = b && all bs
+
+abbrev table : List Bool
+table = trees ++ (hcaas ++ (hrps Correlation ++ (hrps DistanceOfDistances ++ roots)))
+
+-- "The P figures are proved as one table under one claim"
+pub figures : all table ≡ true
+unfolding same lower lowered isWord childrenTable childrenOutcome childrenRows wardF updateF before near better lesser greater offer look scanRow scanFrom scanAll both movable moved movedAll merged step copied numbered start stateAt mergeRows order.orderTable order.orderOutcome order.orderOf count below once isTree grow treeAt leaves onto split digit number isCell isNumeral numeralRead distanceNamed linkageNamed reading.clustersOf reading.isHrp reading.isHcaa reading.isName reading.isAsset reading.isJob reading.covarianceCell reading.covarianceIn reading.distanceField reading.textLines reading.readTable reading.readOutcome reading.jobIn reading.readOf reading.covarianceLaid hcaa.returnRows hcaa.returnColumns hcaa.returnCells hcaa.pricesRefused hcaa.rowsMade hcaa.columnsMade hcaa.cellsMade hcaa.covarianceOf hcaa.usedCovariance hcaa.metricOf hcaa.usedMetric hcaa.unnamed hcaa.isMean hcaa.isExponential hcaa.expectedOf hcaa.usedExpected hcaa.countOf hcaa.usedRule hcaa.nameLines hcaa.matrixRules hcaa.sharpeLines hcaa.hcaaTable hcaa.outcomeOf isTailRisk metricNamed isSharpe hierarchy.distancesOf hierarchy.rowsOf hierarchy.orderOf hierarchy.weightsOf hierarchy.roomLines hierarchy.shareLines allot.sharesOf allot.allotted allot.insideOf allot.variedOf allot.equalOf allot.spreadOf allot.dealTo sharing.splitOf sharing.scored sharing.byRisk sharing.splitBy sharing.bounded millionthsOf inMillionths inRange every millionthsTable millionthsOutcome millionthsIn millionthsLaid hrp.pricesAlone hrp.returnRows hrp.returnCells hrp.covarianceOf hrp.usedCovariance hrp.shapeLines hrp.numberLines hrp.hrpTable hrp.outcomeOf absent rowsIn otherColumns otherSize matrixLines parity.correlationsOf parity.distancesOf parity.treeDistances parity.rowsOf parity.orderOf parity.sharesOf parity.roomLines parity.riskLines bisection.factorOf bisection.splitOf bisection.halved bisection.bisected bisection.normal bisection.weightsOf tooBig misfits overLimit otherLength sizes laid first tab grid sumTo sumOn sumRows anyTo range span isNone weightsIn recip recipSum shares term varianceOf outside anyLowOf riskTable sizeTable sharesOutcome varianceOutcome varianceAnswer correlationCell anyLow clamped distanceOf distanceCell offDiagonal square between betweenCell minOf maxOf absOf clampOf finiteOf oneOver root isqrt lt le eq isNan neg add sum sub mul div ofInt round units odd trailingZeros size ieee-span climb ofFields ofBits toBits
+figures = refl

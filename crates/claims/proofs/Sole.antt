@@ -1,0 +1,469 @@
+-- No second answer fits: for each public function CRATE::FUNCTION of the libraries a theorem CRATE-FUNCTION on its own contract, which the check reads off its `ensures`: CRATE·FUNCTION.
+-- Two functions return a part of a slice, `fields::piece` and `reading::name`: their contracts say what bytes it has, and leave open where it lies.
+-- A double is the logic's, which has one NaN. Assumes nothing.
+use Prim.Native.Nat.{ℕ}
+use mathlib.Core.Path.{_≡_, refl, sym, _∙_}
+use mathlib.Core.List.{List}
+use lib.Ieee.{Float}
+use denote.Ref.{now}
+use Rattle.refusal.specs.declared.Outcome.{Outcome}
+use Rattle.linkage.specs.declared.Distance.{Distance}
+use Rattle.linkage.specs.declared.Linkage.{Linkage}
+use Rattle.parity.specs.Parity as parity
+use Rattle.hierarchy.specs.Hierarchy as hierarchy
+use Rattle.claims.specs.Sole.{Sole, SoleOf}
+use Rattle.arithmetic.proofs.max as arithmetic·max
+use Rattle.arithmetic.proofs.min as arithmetic·min
+use Rattle.arithmetic.proofs.clamp as arithmetic·clamp
+use Rattle.arithmetic.proofs.abs as arithmetic·abs
+use Rattle.arithmetic.proofs.is_finite as arithmetic·is-finite
+use Rattle.arithmetic.proofs.count as arithmetic·count
+use Rattle.arithmetic.proofs.from_bits as arithmetic·from-bits
+use Rattle.arithmetic.proofs.to_bits as arithmetic·to-bits
+use Rattle.arithmetic.proofs.settled as arithmetic·settled
+use Rattle.arithmetic.proofs.one_over as arithmetic·one-over
+use Rattle.arithmetic.proofs.sqrt as arithmetic·sqrt
+use Rattle.refusal.proofs.number as refusal·number
+use Rattle.refusal.proofs.requested as refusal·requested
+use Rattle.refusal.proofs.assets as refusal·assets
+use Rattle.refusal.proofs.refuse as refusal·refuse
+use Rattle.refusal.proofs.and_then as refusal·and-then
+use Rattle.refusal.proofs.both as refusal·both
+use Rattle.refusal.proofs.either as refusal·either
+use Rattle.lent.proofs.clear as lent·clear
+use Rattle.lent.proofs.clear_numbers as lent·clear-numbers
+use Rattle.lent.proofs.clear_bytes as lent·clear-bytes
+use Rattle.lent.proofs.clear_from as lent·clear-from
+use Rattle.lent.proofs.clear_numbers_from as lent·clear-numbers-from
+use Rattle.lent.proofs.clear_bytes_from as lent·clear-bytes-from
+use Rattle.lent.proofs.over_limit as lent·over-limit
+use Rattle.lent.proofs.has_other_length as lent·has-other-length
+use Rattle.lent.proofs.too_big as lent·too-big
+use Rattle.lent.proofs.is_misfit as lent·is-misfit
+use Rattle.lent.proofs.sized as lent·sized
+use Rattle.lent.proofs.squared as lent·squared
+use Rattle.lent.proofs.answered as lent·answered
+use Rattle.lent.proofs.told as lent·told
+use Rattle.lent.proofs.lacks_rows as lent·lacks-rows
+use Rattle.lent.proofs.lacks_cells as lent·lacks-cells
+use Rattle.text.proofs.same as text·same
+use Rattle.text.proofs.is_word as text·is-word
+use Rattle.fields.proofs.end_of as fields·end-of
+use Rattle.fields.proofs.count as fields·count
+use Rattle.fields.proofs.piece as fields·piece
+use Rattle.fields.proofs.read_cell as fields·read-cell
+use Rattle.fields.proofs.read_numeral as fields·read-numeral
+use Rattle.resample.proofs.freq_step as resample·freq-step
+use Rattle.resample.proofs.resample_prices as resample·resample-prices
+use Rattle.resample.proofs.returns_from_prices as resample·returns-from-prices
+use Rattle.stats.proofs.covariance as stats·covariance
+use Rattle.stats.proofs.shrink_covariance as stats·shrink-covariance
+use Rattle.stats.proofs.cov2corr as stats·cov2corr
+use Rattle.stats.proofs.mean_expected_returns as stats·mean-expected-returns
+use Rattle.stats.proofs.exponential_expected_returns as stats·exponential-expected-returns
+use Rattle.distances.proofs.corr_to_distances as distances·corr-to-distances
+use Rattle.distances.proofs.distance_of_distances as distances·distance-of-distances
+use Rattle.tree.proofs.is_tree as tree·is-tree
+use Rattle.tree.proofs.is_order as tree·is-order
+use Rattle.tree.proofs.quasi_diagonalization as tree·quasi-diagonalization
+use Rattle.tree.proofs.seriate_matrix as tree·seriate-matrix
+use Rattle.linkage.proofs.distance_named as linkage·distance-named
+use Rattle.linkage.proofs.linkage_named as linkage·linkage-named
+use Rattle.linkage.proofs.Linkage.update as linkage·update
+use Rattle.linkage.proofs.linkage_children as linkage·linkage-children
+use Rattle.reading.proofs.clusters_asked as reading·clusters-asked
+use Rattle.reading.proofs.read_job as reading·read-job
+use Rattle.reading.proofs.name as reading·name
+use Rattle.clusters.proofs.inverse_variance_weights as clusters·inverse-variance-weights
+use Rattle.clusters.proofs.cluster_variance as clusters·cluster-variance
+use Rattle.clusters.proofs.cluster_sharpe as clusters·cluster-sharpe
+use Rattle.bisection.proofs.recursive_bisection_min_var as bisection·recursive-bisection-min-var
+use Rattle.sharing.proofs.metric_named as sharing·metric-named
+use Rattle.sharing.proofs.is_sharpe as sharing·is-sharpe
+use Rattle.sharing.proofs.allocate_down_tree as sharing·allocate-down-tree
+use Rattle.parity.proofs.clear_all as parity·clear-all
+use Rattle.parity.proofs.judge_rooms as parity·judge-rooms
+use Rattle.parity.proofs.allocate_covariance as parity·allocate-covariance
+use Rattle.hierarchy.proofs.clear_all as hierarchy·clear-all
+use Rattle.hierarchy.proofs.judge_rooms as hierarchy·judge-rooms
+use Rattle.hierarchy.proofs.allocate_covariance as hierarchy·allocate-covariance
+use Rattle.inputs.proofs.is_absent as inputs·is-absent
+use Rattle.inputs.proofs.rows_in as inputs·rows-in
+use Rattle.inputs.proofs.has_other_columns as inputs·has-other-columns
+use Rattle.inputs.proofs.has_other_size as inputs·has-other-size
+use Rattle.inputs.proofs.judge_matrices as inputs·judge-matrices
+use Rattle.inputs.proofs.sampled_returns as inputs·sampled-returns
+use Rattle.hrp.proofs.allocate as hrp·allocate
+use Rattle.hcaa.proofs.allocate as hcaa·allocate
+use Rattle.job.proofs.bytes as job·bytes
+use Rattle.job.proofs.text_to_listing as job·text-to-listing
+use Rattle.millionths.proofs.millionths as millionths·millionths
+use Rattle.millionths.proofs.part as millionths·part
+use Rattle.millionths.proofs.weights_in_millionths as millionths·weights-in-millionths
+
+-- ---- the law: what is the same as a third is the same
+
+sole : {A : Type 0} {x a b : A} → a ≡ x → b ≡ x → a ≡ b
+sole p q = p ∙ sym q
+
+-- nothing is left in five parameters that are only read
+kept5 : {E : Type 0} {e e′ : E} → e ≡ e′ → _≡_ {A = Unit {0} × (Unit {0} × (Unit {0} × (Unit {0} × (Unit {0} × E))))} (tt, (tt, (tt, (tt, (tt, e))))) (tt, (tt, (tt, (tt, (tt, e′)))))
+kept5 p i = (tt, (tt, (tt, (tt, (tt, p i)))))
+
+-- ---- the lent buffers of HCAA (rows, order, weights, scratch) and of HRP (rows, order, weights, correlations, distances, scratch), laid out or cleared
+
+abbrev Four : Type 0
+Four = List ℕ × (List ℕ × (List Float × (List Float × Unit {0})))
+
+abbrev Six : Type 0
+Six = List ℕ × (List ℕ × (List Float × (List Float × (List Float × (List Float × Unit {0})))))
+
+four-laid : {o : Outcome} {u : hierarchy.Rule} {d : Distance} {l : Linkage} {cov : List Float} {n : ℕ} {room : hierarchy.Room} {rows order rows′ order′ : List ℕ} {w s w′ s′ : List Float}
+    → hierarchy.Laid o u d l cov n room rows order w s → hierarchy.Laid o u d l cov n room rows′ order′ w′ s′
+    → _≡_ {A = Four} (rows, (order, (w, (s, tt)))) (rows′, (order′, (w′, (s′, tt))))
+four-laid p q i =
+    let rows = sole (p .rows-are) (q .rows-are) in
+    let order = sole (p .order-is) (q .order-is) in
+    let weights = sole (p .weights-are) (q .weights-are) in
+    let scratch = sole (p .scratch-is) (q .scratch-is) in
+    (rows i, (order i, (weights i, (scratch i, tt))))
+
+four-zeros : {room : hierarchy.Room} {rows order rows′ order′ : List ℕ} {w s w′ s′ : List Float}
+    → hierarchy.Cleared room rows order w s → hierarchy.Cleared room rows′ order′ w′ s′
+    → _≡_ {A = Four} (rows, (order, (w, (s, tt)))) (rows′, (order′, (w′, (s′, tt))))
+four-zeros p q i =
+    let rows = sole (p .rows-are) (q .rows-are) in
+    let order = sole (p .order-is) (q .order-is) in
+    let weights = sole (p .weights-are) (q .weights-are) in
+    let scratch = sole (p .scratch-is) (q .scratch-is) in
+    (rows i, (order i, (weights i, (scratch i, tt))))
+
+six-laid : {o : Outcome} {d : Distance} {cov : List Float} {n : ℕ} {room : parity.Room} {rows order rows′ order′ : List ℕ} {w c t s w′ c′ t′ s′ : List Float}
+    → parity.Laid o d cov n room rows order w c t s → parity.Laid o d cov n room rows′ order′ w′ c′ t′ s′
+    → _≡_ {A = Six} (rows, (order, (w, (c, (t, (s, tt)))))) (rows′, (order′, (w′, (c′, (t′, (s′, tt))))))
+six-laid p q i =
+    let rows = sole (p .rows-are) (q .rows-are) in
+    let order = sole (p .order-is) (q .order-is) in
+    let weights = sole (p .weights-are) (q .weights-are) in
+    let correlations = sole (p .correlations-are) (q .correlations-are) in
+    let distances = sole (p .distances-are) (q .distances-are) in
+    let scratch = sole (p .scratch-is) (q .scratch-is) in
+    (rows i, (order i, (weights i, (correlations i, (distances i, (scratch i, tt))))))
+
+six-zeros : {room : parity.Room} {rows order rows′ order′ : List ℕ} {w c t s w′ c′ t′ s′ : List Float}
+    → parity.Cleared room rows order w c t s → parity.Cleared room rows′ order′ w′ c′ t′ s′
+    → _≡_ {A = Six} (rows, (order, (w, (c, (t, (s, tt)))))) (rows′, (order′, (w′, (c′, (t′, (s′, tt))))))
+six-zeros p q i =
+    let rows = sole (p .rows-are) (q .rows-are) in
+    let order = sole (p .order-is) (q .order-is) in
+    let weights = sole (p .weights-are) (q .weights-are) in
+    let correlations = sole (p .correlations-are) (q .correlations-are) in
+    let distances = sole (p .distances-are) (q .distances-are) in
+    let scratch = sole (p .scratch-is) (q .scratch-is) in
+    (rows i, (order i, (weights i, (correlations i, (distances i, (scratch i, tt))))))
+
+-- ---- arithmetic: document 01's arithmetic on doubles
+
+pub arithmetic-max : Sole arithmetic·max.ended arithmetic·max.Reads.Post
+arithmetic-max κs a r r′ e e′ p q = (sole p q, refl)
+
+pub arithmetic-min : Sole arithmetic·min.ended arithmetic·min.Reads.Post
+arithmetic-min κs a r r′ e e′ p q = (sole p q, refl)
+
+pub arithmetic-clamp : Sole arithmetic·clamp.ended arithmetic·clamp.Reads.Post
+arithmetic-clamp κs a r r′ e e′ p q = (sole p q, refl)
+
+pub arithmetic-abs : Sole arithmetic·abs.ended arithmetic·abs.Reads.Post
+arithmetic-abs κs a r r′ e e′ p q = (sole p q, refl)
+
+pub arithmetic-is-finite : Sole arithmetic·is-finite.ended arithmetic·is-finite.Reads.Post
+arithmetic-is-finite κs a r r′ e e′ p q = (sole p q, refl)
+
+pub arithmetic-count : Sole arithmetic·count.ended arithmetic·count.Reads.Post
+arithmetic-count κs a r r′ e e′ p q = (sole p q, refl)
+
+pub arithmetic-from-bits : Sole arithmetic·from-bits.ended arithmetic·from-bits.Reads.Post
+arithmetic-from-bits κs a r r′ e e′ p q = (sole p q, refl)
+
+pub arithmetic-to-bits : Sole arithmetic·to-bits.ended arithmetic·to-bits.Reads.Post
+arithmetic-to-bits κs a r r′ e e′ p q = (sole p q, refl)
+
+pub arithmetic-settled : Sole arithmetic·settled.ended arithmetic·settled.Reads.Post
+arithmetic-settled κs a r r′ e e′ p q = (sole p q, refl)
+
+pub arithmetic-one-over : Sole arithmetic·one-over.ended arithmetic·one-over.Reads.Post
+arithmetic-one-over κs a r r′ e e′ p q = (sole p q, refl)
+
+pub arithmetic-sqrt : Sole arithmetic·sqrt.ended arithmetic·sqrt.Reads.Post
+arithmetic-sqrt κs a r r′ e e′ p q = (sole p q, refl)
+
+-- ---- refusal: refusals, their numbers and tables
+
+pub refusal-number : Sole refusal·number.ended refusal·number.Reads.Post
+refusal-number κs a r r′ e e′ p q = (sole p q, refl)
+
+pub refusal-requested : Sole refusal·requested.ended refusal·requested.Reads.Post
+refusal-requested κs a r r′ e e′ p q = (sole p q, refl)
+
+pub refusal-assets : Sole refusal·assets.ended refusal·assets.Reads.Post
+refusal-assets κs a r r′ e e′ p q = (sole p q, refl)
+
+pub refusal-refuse : Sole refusal·refuse.ended refusal·refuse.Reads.Post
+refusal-refuse κs a r r′ e e′ p q = (sole p q, refl)
+
+pub refusal-and-then : Sole refusal·and-then.ended refusal·and-then.Reads.Post
+refusal-and-then κs a r r′ e e′ p q = (sole p q, refl)
+
+pub refusal-both : Sole refusal·both.ended refusal·both.Reads.Post
+refusal-both κs a r r′ e e′ p q = (sole p q, refl)
+
+pub refusal-either : Sole refusal·either.ended refusal·either.Reads.Post
+refusal-either κs a r r′ e e′ p q = (sole p q, refl)
+
+-- ---- lent: lent buffers and sizes
+
+pub lent-clear : Sole lent·clear.ended lent·clear.Reads.Post
+lent-clear κs a r r′ e e′ p q = (refl, λ i. (sole p q i, tt))
+
+pub lent-clear-numbers : Sole lent·clear-numbers.ended lent·clear-numbers.Reads.Post
+lent-clear-numbers κs a r r′ e e′ p q = (refl, λ i. (sole p q i, tt))
+
+pub lent-clear-bytes : Sole lent·clear-bytes.ended lent·clear-bytes.Reads.Post
+lent-clear-bytes κs a r r′ e e′ p q = (refl, λ i. (sole p q i, tt))
+
+pub lent-clear-from : Sole lent·clear-from.ended lent·clear-from.Reads.Post
+lent-clear-from κs a r r′ e e′ p q = (refl, λ i. (sole p q i, (tt, tt)))
+
+pub lent-clear-numbers-from : Sole lent·clear-numbers-from.ended lent·clear-numbers-from.Reads.Post
+lent-clear-numbers-from κs a r r′ e e′ p q = (refl, λ i. (sole p q i, (tt, tt)))
+
+pub lent-clear-bytes-from : Sole lent·clear-bytes-from.ended lent·clear-bytes-from.Reads.Post
+lent-clear-bytes-from κs a r r′ e e′ p q = (refl, λ i. (sole p q i, (tt, tt)))
+
+pub lent-over-limit : Sole lent·over-limit.ended lent·over-limit.Reads.Post
+lent-over-limit κs a r r′ e e′ p q = (sole p q, refl)
+
+pub lent-has-other-length : Sole lent·has-other-length.ended lent·has-other-length.Reads.Post
+lent-has-other-length κs a r r′ e e′ p q = (sole p q, refl)
+
+pub lent-too-big : Sole lent·too-big.ended lent·too-big.Reads.Post
+lent-too-big κs a r r′ e e′ p q = (sole p q, refl)
+
+pub lent-is-misfit : Sole lent·is-misfit.ended lent·is-misfit.Reads.Post
+lent-is-misfit κs a r r′ e e′ p q = (sole p q, refl)
+
+pub lent-sized : Sole lent·sized.ended lent·sized.Reads.Post
+lent-sized κs a r r′ e e′ p q = (sole p q, refl)
+
+pub lent-squared : Sole lent·squared.ended lent·squared.Reads.Post
+lent-squared κs a r r′ e e′ p q = (sole p q, refl)
+
+pub lent-answered : Sole lent·answered.ended lent·answered.Reads.Post
+lent-answered κs a r r′ e e′ p q = (sole p q, refl)
+
+pub lent-told : Sole lent·told.ended lent·told.Reads.Post
+lent-told κs a r r′ e e′ p q = (sole p q, refl)
+
+pub lent-lacks-rows : Sole lent·lacks-rows.ended lent·lacks-rows.Reads.Post
+lent-lacks-rows κs a r r′ e e′ p q = (sole p q, refl)
+
+pub lent-lacks-cells : Sole lent·lacks-cells.ended lent·lacks-cells.Reads.Post
+lent-lacks-cells κs a r r′ e e′ p q = (sole p q, refl)
+
+-- ---- text: bytes and names
+
+pub text-same : Sole text·same.ended text·same.Reads.Post
+text-same κs a r r′ e e′ p q = (sole p q, refl)
+
+pub text-is-word : Sole text·is-word.ended text·is-word.Reads.Post
+text-is-word κs a r r′ e e′ p q = (sole p q, refl)
+
+-- ---- fields: pieces of a text, and numerals; of a piece, its bytes
+
+pub fields-end-of : Sole fields·end-of.ended fields·end-of.Reads.Post
+fields-end-of κs a r r′ e e′ p q = (sole p q, refl)
+
+pub fields-count : Sole fields·count.ended fields·count.Reads.Post
+fields-count κs a r r′ e e′ p q = (sole p q, refl)
+
+pub fields-piece : SoleOf fields·piece.ended fields·piece.Reads.Post (λ κs r. now r)
+fields-piece κs a r r′ e e′ p q = (sole p q, refl)
+
+pub fields-read-cell : Sole fields·read-cell.ended fields·read-cell.Reads.Post
+fields-read-cell κs a r r′ e e′ p q = (sole p q, refl)
+
+pub fields-read-numeral : Sole fields·read-numeral.ended fields·read-numeral.Reads.Post
+fields-read-numeral κs a r r′ e e′ p q = (sole p q, refl)
+
+-- ---- resample: sampling and returns
+
+pub resample-freq-step : Sole resample·freq-step.ended resample·freq-step.Reads.Post
+resample-freq-step κs a r r′ e e′ p q = (sole p q, refl)
+
+pub resample-resample-prices : Sole resample·resample-prices.ended resample·resample-prices.Reads.Post
+resample-resample-prices κs a r r′ e e′ p q = (sole (p .0) (q .0), λ i. (tt, (tt, (tt, (tt, (sole (p .1) (q .1) i, tt))))))
+
+pub resample-returns-from-prices : Sole resample·returns-from-prices.ended resample·returns-from-prices.Reads.Post
+resample-returns-from-prices κs a r r′ e e′ p q = (sole (p .0) (q .0), λ i. (tt, (tt, (tt, (sole (p .1) (q .1) i, tt)))))
+
+-- ---- stats: covariance, correlation, expected returns
+
+pub stats-covariance : Sole stats·covariance.ended stats·covariance.Reads.Post
+stats-covariance κs a r r′ e e′ p q = (sole (p .0) (q .0), λ i. (tt, (tt, (tt, (sole (p .1) (q .1) i, tt)))))
+
+pub stats-shrink-covariance : Sole stats·shrink-covariance.ended stats·shrink-covariance.Reads.Post
+stats-shrink-covariance κs a r r′ e e′ p q = (sole (p .0) (q .0), λ i. (tt, (tt, (tt, (sole (p .1) (q .1) i, tt)))))
+
+pub stats-cov2corr : Sole stats·cov2corr.ended stats·cov2corr.Reads.Post
+stats-cov2corr κs a r r′ e e′ p q = (sole (p .0) (q .0), λ i. (tt, (tt, (tt, (sole (p .1) (q .1) i, tt)))))
+
+pub stats-mean-expected-returns : Sole stats·mean-expected-returns.ended stats·mean-expected-returns.Reads.Post
+stats-mean-expected-returns κs a r r′ e e′ p q = (sole (p .0) (q .0), λ i. (tt, (tt, (tt, (sole (p .1) (q .1) i, tt)))))
+
+pub stats-exponential-expected-returns : Sole stats·exponential-expected-returns.ended stats·exponential-expected-returns.Reads.Post
+stats-exponential-expected-returns κs a r r′ e e′ p q = (sole (p .0) (q .0), λ i. (tt, (tt, (tt, (sole (p .1) (q .1) i, tt)))))
+
+-- ---- distances: distances, and distances of distances
+
+pub distances-corr-to-distances : Sole distances·corr-to-distances.ended distances·corr-to-distances.Reads.Post
+distances-corr-to-distances κs a r r′ e e′ p q = (sole (p .0) (q .0), λ i. (tt, (tt, (tt, (tt, (sole (p .1) (q .1) i, tt))))))
+
+pub distances-distance-of-distances : Sole distances·distance-of-distances.ended distances·distance-of-distances.Reads.Post
+distances-distance-of-distances κs a r r′ e e′ p q = (sole (p .0) (q .0), λ i. (tt, (tt, (tt, (sole (p .1) (q .1) i, tt)))))
+
+-- ---- tree: merge rows as a tree, leaf order, seriated matrices
+
+pub tree-is-tree : Sole tree·is-tree.ended tree·is-tree.Reads.Post
+tree-is-tree κs a r r′ e e′ p q = (sole p q, refl)
+
+pub tree-is-order : Sole tree·is-order.ended tree·is-order.Reads.Post
+tree-is-order κs a r r′ e e′ p q = (sole p q, refl)
+
+pub tree-quasi-diagonalization : Sole tree·quasi-diagonalization.ended tree·quasi-diagonalization.Reads.Post
+tree-quasi-diagonalization κs a r r′ e e′ p q = (sole (p .0) (q .0), λ i. (tt, (tt, (tt, (sole (p .1) (q .1) i, tt)))))
+
+pub tree-seriate-matrix : Sole tree·seriate-matrix.ended tree·seriate-matrix.Reads.Post
+tree-seriate-matrix κs a r r′ e e′ p q = (sole (p .0) (q .0), λ i. (tt, (tt, (tt, (tt, (sole (p .1) (q .1) i, tt))))))
+
+-- ---- linkage: names, and merge rows
+
+pub linkage-distance-named : Sole linkage·distance-named.ended linkage·distance-named.Reads.Post
+linkage-distance-named κs a r r′ e e′ p q = (sole p q, refl)
+
+pub linkage-linkage-named : Sole linkage·linkage-named.ended linkage·linkage-named.Reads.Post
+linkage-linkage-named κs a r r′ e e′ p q = (sole p q, refl)
+
+pub linkage-update : Sole linkage·update.ended linkage·update.Reads.Post
+linkage-update κs a r r′ e e′ p q = (sole p q, refl)
+
+pub linkage-linkage-children : Sole linkage·linkage-children.ended linkage·linkage-children.Reads.Post
+linkage-linkage-children κs a r r′ e e′ p q = (sole (p .0) (q .0), λ i. (tt, (tt, (tt, (tt, (sole (p .1) (q .1) i, tt))))))
+
+-- ---- reading: a job text read; of a name, its bytes
+
+pub reading-clusters-asked : Sole reading·clusters-asked.ended reading·clusters-asked.Reads.Post
+reading-clusters-asked κs a r r′ e e′ p q = (sole p q, refl)
+
+pub reading-read-job : Sole reading·read-job.ended reading·read-job.Reads.Post
+reading-read-job κs a r r′ e e′ p q = (sole (p .0) (q .0), λ i. (tt, (sole (p .1 .0) (q .1 .0) i, (sole (p .1 .1) (q .1 .1) i, tt))))
+
+pub reading-name : SoleOf reading·name.ended reading·name.Reads.Post (λ κs r. now r)
+reading-name κs a r r′ e e′ p q = (sole p q, refl)
+
+-- ---- clusters: risk of a list of assets
+
+pub clusters-inverse-variance-weights : Sole clusters·inverse-variance-weights.ended clusters·inverse-variance-weights.Reads.Post
+clusters-inverse-variance-weights κs a r r′ e e′ p q = (sole (p .0) (q .0), λ i. (tt, (tt, (tt, (tt, (sole (p .1) (q .1) i, tt))))))
+
+pub clusters-cluster-variance : Sole clusters·cluster-variance.ended clusters·cluster-variance.Reads.Post
+clusters-cluster-variance κs a r r′ e e′ p q = (sole p q, refl)
+
+pub clusters-cluster-sharpe : Sole clusters·cluster-sharpe.ended clusters·cluster-sharpe.Reads.Post
+clusters-cluster-sharpe κs a r r′ e e′ p q = (sole p q, refl)
+
+-- ---- bisection: HRP's halving of a given order
+
+pub bisection-recursive-bisection-min-var : Sole bisection·recursive-bisection-min-var.ended bisection·recursive-bisection-min-var.Reads.Post
+bisection-recursive-bisection-min-var κs a r r′ e e′ p q = (sole (p .0) (q .0), λ i. (tt, (tt, (tt, (tt, (sole (p .1) (q .1) i, tt))))))
+
+-- ---- sharing: metrics, and sharing down given merge rows
+
+pub sharing-metric-named : Sole sharing·metric-named.ended sharing·metric-named.Reads.Post
+sharing-metric-named κs a r r′ e e′ p q = (sole p q, refl)
+
+pub sharing-is-sharpe : Sole sharing·is-sharpe.ended sharing·is-sharpe.Reads.Post
+sharing-is-sharpe κs a r r′ e e′ p q = (sole p q, refl)
+
+pub sharing-allocate-down-tree : Sole sharing·allocate-down-tree.ended sharing·allocate-down-tree.Reads.Post
+sharing-allocate-down-tree κs a r r′ e e′ p q = (sole (p .0) (q .0), kept5 (λ i. (tt, (tt, (tt, (tt, (sole (p .1) (q .1) i, tt)))))))
+
+-- ---- parity: HRP on a covariance
+
+pub parity-clear-all : Sole parity·clear-all.ended parity·clear-all.Reads.Post
+parity-clear-all κs a r r′ e e′ p q = (refl, six-zeros p q)
+
+pub parity-judge-rooms : Sole parity·judge-rooms.ended parity·judge-rooms.Reads.Post
+parity-judge-rooms κs a r r′ e e′ p q = (sole p q, refl)
+
+pub parity-allocate-covariance : Sole parity·allocate-covariance.ended parity·allocate-covariance.Reads.Post
+parity-allocate-covariance κs a r r′ e e′ p q = (sole (p .answer) (q .answer), λ i. (tt, (tt, (tt, (tt, six-laid (p .buffers) (q .buffers) i)))))
+
+-- ---- hierarchy: HCAA on a covariance
+
+pub hierarchy-clear-all : Sole hierarchy·clear-all.ended hierarchy·clear-all.Reads.Post
+hierarchy-clear-all κs a r r′ e e′ p q = (refl, four-zeros p q)
+
+pub hierarchy-judge-rooms : Sole hierarchy·judge-rooms.ended hierarchy·judge-rooms.Reads.Post
+hierarchy-judge-rooms κs a r r′ e e′ p q = (sole p q, refl)
+
+pub hierarchy-allocate-covariance : Sole hierarchy·allocate-covariance.ended hierarchy·allocate-covariance.Reads.Post
+hierarchy-allocate-covariance κs a r r′ e e′ p q = (sole (p .answer) (q .answer), kept5 (λ i. (tt, (tt, (tt, (tt, four-laid (p .buffers) (q .buffers) i))))))
+
+-- ---- inputs: the matrices given to both allocators
+
+pub inputs-is-absent : Sole inputs·is-absent.ended inputs·is-absent.Reads.Post
+inputs-is-absent κs a r r′ e e′ p q = (sole p q, refl)
+
+pub inputs-rows-in : Sole inputs·rows-in.ended inputs·rows-in.Reads.Post
+inputs-rows-in κs a r r′ e e′ p q = (sole p q, refl)
+
+pub inputs-has-other-columns : Sole inputs·has-other-columns.ended inputs·has-other-columns.Reads.Post
+inputs-has-other-columns κs a r r′ e e′ p q = (sole p q, refl)
+
+pub inputs-has-other-size : Sole inputs·has-other-size.ended inputs·has-other-size.Reads.Post
+inputs-has-other-size κs a r r′ e e′ p q = (sole p q, refl)
+
+pub inputs-judge-matrices : Sole inputs·judge-matrices.ended inputs·judge-matrices.Reads.Post
+inputs-judge-matrices κs a r r′ e e′ p q = (sole p q, refl)
+
+pub inputs-sampled-returns : Sole inputs·sampled-returns.ended inputs·sampled-returns.Reads.Post
+inputs-sampled-returns κs a r r′ e e′ p q = (sole (p .0) (q .0), λ i. (tt, (tt, (tt, (tt, (sole (p .1) (q .1) i, tt))))))
+
+-- ---- hrp: HRP
+
+pub hrp-allocate : Sole hrp·allocate.ended hrp·allocate.Reads.Post
+hrp-allocate κs a r r′ e e′ p q = (sole (p .answer) (q .answer), kept5 (kept5 (six-laid (p .buffers) (q .buffers))))
+
+-- ---- hcaa: HCAA
+
+pub hcaa-allocate : Sole hcaa·allocate.ended hcaa·allocate.Reads.Post
+hcaa-allocate κs a r r′ e e′ p q = (sole (p .0 .answer) (q .0 .answer), kept5 (kept5 (kept5 (four-laid (p .0 .buffers) (q .0 .buffers)))))
+
+-- ---- millionths: weights in millionths
+
+pub millionths-millionths : Sole millionths·millionths.ended millionths·millionths.Reads.Post
+millionths-millionths κs a r r′ e e′ p q = (sole p q, refl)
+
+pub millionths-part : Sole millionths·part.ended millionths·part.Reads.Post
+millionths-part κs a r r′ e e′ p q = (sole p q, refl)
+
+pub millionths-weights-in-millionths : Sole millionths·weights-in-millionths.ended millionths·weights-in-millionths.Reads.Post
+millionths-weights-in-millionths κs a r r′ e e′ p q = (sole (p .0) (q .0), λ i. (tt, (sole (p .1) (q .1) i, tt)))
+
+-- ---- job: a text to its listing
+
+pub job-bytes : Sole job·bytes.ended job·bytes.Reads.Post
+job-bytes κs a r r′ e e′ p q = (sole p q, refl)
+
+pub job-text-to-listing : Sole job·text-to-listing.ended job·text-to-listing.Reads.Post
+job-text-to-listing κs a r r′ e e′ p q = (sole (p .0) (q .0), λ i. (tt, (sole (p .1 .0) (q .1 .0) i, tt)))
