@@ -1,0 +1,12 @@
+-- `sheets::space` is a mebibyte. Assumes nothing.
+use Prim.Native.Nat.{ℕ}
+use mathlib.Core.Path.{sym}
+use lib.ListN.{length-replicate}
+use Rattle.sheets.proofs.space.Statement.{statement}
+use Rattle.sheets.proofs.space.Tie as tie
+
+returns : tie.Need-returns
+returns c = sym (length-replicate {0} {A = ℕ} 1048576 0)
+
+pub space-spec : {M : Type 1} → statement M
+space-spec = tie.close (tie.spec returns)
