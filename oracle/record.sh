@@ -1,9 +1,9 @@
 #!/bin/sh
-# Builds the Rust against its stand-ins and writes stdin and stdout of the programs replay and accounts. Needs cargo and no network.
+# Builds the Rust against its stand-ins and writes stdin and stdout of the programs replay and accounts. Needs cargo, the source's five files
+# (oracle/source.sh says where they are looked for) and no network.
 set -eu
 root=$(cd "$(dirname "$0")/.." && pwd -P)
-cd "$root/oracle/rust"
+. "$root/oracle/source.sh"
 for program in replay accounts; do
-    CARGO_TARGET_DIR=$root/target/oracle cargo run --quiet --release --offline -p record -- \
-        "$program" "$root/crates/$program/stdin" "$root/crates/$program/stdout"
+    oracle_cargo run --quiet --release -p record -- "$program" "$root/crates/$program/stdin" "$root/crates/$program/stdout"
 done

@@ -1,13 +1,79 @@
-/* The C interface: the functions of the crate capi, in the library that `rt staticlib capi` writes (x86-64), or bench/native-staticlib capi. */
+/* Rovignesc: the engine for C. Link target/native/libcapi.a (bench/native-staticlib capi builds it for this machine).
+
+   Every call takes any input. It answers document 01's refusal number, or 0 where the job is accepted.
+   After a refusal every lent answer and scratch entry is zero; after an accepted job everything past the answer is, and all scratch.
+   Inputs never change. A slice is a pointer and its number of entries; where that is 0 the pointer is not read.
+   The lent buffers of one call must not overlap each other or its inputs.
+
+   A flag is false where it is 0. A matrix is a slice, a flag that says whether it is given, its rows and its columns; cell (r, c) is entry
+   r * columns + c. Names are bytes: distance "correlation" or "distance_of_distances", linkage "single", "complete", "average" or "ward"
+   (any case; else 7, 8), a metric "minimum_variance", "minimum_standard_deviation", "sharpe_ratio" or "equal_weighting" (as written; else 2, 12).
+   A name of linkage or distance that is unknown is refused after 9, 10 and 11 and before everything else, 8 before 7.
+
+   Of n assets the rows take 2(n - 1) numbers, the order n, the weights n, each seriated matrix n * n, scratch at least 8192. */
 #ifndef ROVIGNESC_H
 #define ROVIGNESC_H
+
+#include <stddef.h>
+#include <stdint.h>
 
 #ifdef __cplusplus
 extern "C" {
 #endif
 
-/* The square root of x: no double is nearer to the exact root. +0, -0 and +infinity give themselves; NaN and negatives give NaN. */
+/* The square root of x, correctly rounded. A NaN answer has the bits 7ff8000000000000. */
 double rovignesc_sqrt(double x);
+
+/* Hierarchical risk parity: the tree, its leaf order, the weights, and the correlations and distances in that order. */
+uint8_t rovignesc_hrp(size_t assets,
+                      const double *prices, size_t prices_len, uint8_t prices_given, size_t prices_rows, size_t prices_columns,
+                      const double *returns, size_t returns_len, uint8_t returns_given, size_t returns_rows, size_t returns_columns,
+                      const double *covariance, size_t covariance_len, uint8_t covariance_given, size_t covariance_rows, size_t covariance_columns,
+                      const uint8_t *resample_by, size_t resample_by_len,
+                      uint8_t use_shrinkage,
+                      const uint8_t *distance, size_t distance_len,
+                      size_t *rows, size_t rows_len,
+                      size_t *order, size_t order_len,
+                      double *weights, size_t weights_len,
+                      double *seriated_correlations, size_t seriated_correlations_len,
+                      double *seriated_distances, size_t seriated_distances_len,
+                      double *scratch, size_t scratch_len);
+
+/* Hierarchical clustering-based asset allocation: the tree, its leaf order and the weights. expected_given and clusters_given are flags:
+   without clusters the tree is split down to single assets. asked has room for two numbers (else 11): after refusal 6 the clusters that were
+   asked for and the assets, else zeros. */
+uint8_t rovignesc_hcaa(size_t assets,
+                       const double *prices, size_t prices_len, uint8_t prices_given, size_t prices_rows, size_t prices_columns,
+                       const double *returns, size_t returns_len, uint8_t returns_given, size_t returns_rows, size_t returns_columns,
+                       const double *covariance, size_t covariance_len, uint8_t covariance_given, size_t covariance_rows, size_t covariance_columns,
+                       const double *expected, size_t expected_len, uint8_t expected_given,
+                       const uint8_t *metric, size_t metric_len,
+                       const uint8_t *method, size_t method_len,
+                       uint8_t clusters_given, size_t clusters,
+                       const uint8_t *resample_by, size_t resample_by_len,
+                       const uint8_t *distance, size_t distance_len,
+                       const uint8_t *linkage, size_t linkage_len,
+                       size_t *rows, size_t rows_len,
+                       size_t *order, size_t order_len,
+                       double *weights, size_t weights_len,
+                       double *scratch, size_t scratch_len,
+                       size_t *asked, size_t asked_len);
+
+/* The merge step: the rows of the tree of a matrix of distances, two numbers each. */
+uint8_t rovignesc_linkage_children(const double *distances, size_t distances_len, size_t distances_rows, size_t distances_columns,
+                                   const uint8_t *linkage, size_t linkage_len,
+                                   size_t *rows, size_t rows_len);
+
+/* The leaf order: the leaves under a node of the tree of given merge rows. leaves has room for one number (else 11): how many there are. */
+uint8_t rovignesc_quasi_diagonalization(const size_t *rows, size_t rows_len, size_t assets, size_t node,
+                                        size_t *order, size_t order_len,
+                                        size_t *leaves, size_t leaves_len);
+
+/* A job text to its listing, a refusal's listing too ("refused", tab, number, newline). The listing takes at least 8192 bytes (else 11, and
+   there is none); bytes has room for one number (else 11): how many bytes of it there are. */
+uint8_t rovignesc_listing(const uint8_t *text, size_t text_len,
+                          uint8_t *listing, size_t listing_len,
+                          size_t *bytes, size_t bytes_len);
 
 #ifdef __cplusplus
 }

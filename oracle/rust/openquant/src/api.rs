@@ -1,9 +1,12 @@
 //! The source's inner steps, for a recorder. A refusal is document 01's number. Where hrp.rs and hcaa.rs have a copy each, both are
 //! run and have to agree.
+use crate::hcaa::{HcaaDistance, HcaaError, HcaaLinkage, HierarchicalClusteringAssetAllocation};
+use crate::hrp::{HierarchicalRiskParity, HrpDistance, HrpError};
 use crate::{hcaa_open, hrp_open};
 use nalgebra::DMatrix;
+use std::sync::OnceLock;
 
-pub use crate::hcaa_open::door::{cluster_sharpe, exponential_expected_returns, mean_expected_returns};
+pub use crate::hcaa_open::door::{allocate_down_tree, cluster_sharpe, exponential_expected_returns, mean_expected_returns};
 pub use crate::hrp_open::door::{recursive_bisection_min_var, seriate_matrix, shrink_covariance};
 
 type Answer = Result<DMatrix<f64>, u8>;
@@ -65,15 +68,19 @@ pub enum Linkage {
     Ward,
 }
 
+impl Linkage {
+    fn hcaa(self) -> HcaaLinkage {
+        match self {
+            Linkage::Single => HcaaLinkage::Single,
+            Linkage::Complete => HcaaLinkage::Complete,
+            Linkage::Average => HcaaLinkage::Average,
+            Linkage::Ward => HcaaLinkage::Ward,
+        }
+    }
+}
+
 pub fn linkage_children(distance: &DMatrix<f64>, method: Linkage) -> Vec<[usize; 2]> {
-    use crate::util::linkage;
-    let method = match method {
-        Linkage::Single => linkage::Linkage::Single,
-        Linkage::Complete => linkage::Linkage::Complete,
-        Linkage::Average => linkage::Linkage::Average,
-        Linkage::Ward => linkage::Linkage::Ward,
-    };
-    linkage::linkage_children(distance, method)
+    crate::util::linkage::linkage_children(distance, method.hcaa().into())
 }
 
 pub fn quasi_diagonalization(n: usize, rows: &[[usize; 2]], node: usize) -> Vec<usize> {
@@ -96,10 +103,51 @@ pub fn cluster_variance(cov: &DMatrix<f64>, assets: &[usize]) -> Answer {
     agreed(mine, hcaa_open::door::cluster_variance(cov, assets).map(|v| row(vec![v])))
 }
 
-#[derive(Clone, Copy, PartialEq)]
+#[derive(Clone, Copy, PartialEq, Debug)]
 pub enum Distance {
     Correlation,
     DistanceOfDistances,
+}
+
+impl Distance {
+    fn hrp(self) -> HrpDistance {
+        match self {
+            Distance::Correlation => HrpDistance::Correlation,
+            Distance::DistanceOfDistances => HrpDistance::DistanceOfDistances,
+        }
+    }
+
+    fn hcaa(self) -> HcaaDistance {
+        match self {
+            Distance::Correlation => HcaaDistance::Correlation,
+            Distance::DistanceOfDistances => HcaaDistance::DistanceOfDistances,
+        }
+    }
+}
+
+/// The distance that both allocators read in a name, or 7.
+pub fn distance_named(name: &str) -> Result<Distance, u8> {
+    let (hrp, hcaa) = (name.parse::<HrpDistance>(), name.parse::<HcaaDistance>());
+    let named = [Distance::Correlation, Distance::DistanceOfDistances].into_iter().find(|d| hrp == Ok(d.hrp()));
+    assert_eq!(named.map(Distance::hcaa), hcaa.ok());
+    named.ok_or(7)
+}
+
+/// The linkage that HCAA reads in a name, or 8.
+pub fn linkage_named(name: &str) -> Result<Linkage, u8> {
+    match name.parse() {
+        Ok(HcaaLinkage::Single) => Ok(Linkage::Single),
+        Ok(HcaaLinkage::Complete) => Ok(Linkage::Complete),
+        Ok(HcaaLinkage::Average) => Ok(Linkage::Average),
+        Ok(HcaaLinkage::Ward) => Ok(Linkage::Ward),
+        Err(_) => Err(8),
+    }
+}
+
+/// Names for so many assets; the source reads only how many there are.
+fn names(assets: usize) -> &'static [String] {
+    static NAMES: OnceLock<Vec<String>> = OnceLock::new();
+    &NAMES.get_or_init(|| (0..64).map(|i| i.to_string()).collect())[..assets]
 }
 
 /// What HRP's public call is handed, and with which distance its allocator was made.
@@ -123,13 +171,9 @@ pub struct Allocation {
 }
 
 pub fn hrp_allocate(account: &Account) -> Result<Allocation, u8> {
-    use crate::hrp::{HierarchicalRiskParity, HrpDistance, HrpError};
-    let mut model = HierarchicalRiskParity::with_distance(match account.distance {
-        Distance::Correlation => HrpDistance::Correlation,
-        Distance::DistanceOfDistances => HrpDistance::DistanceOfDistances,
-    });
-    let names: Vec<String> = (0..account.assets).map(|i| i.to_string()).collect();
-    let said = model.allocate(&names, account.prices, account.returns, account.covariance, account.resample_by, account.use_shrinkage);
+    let mut model = HierarchicalRiskParity::with_distance(account.distance.hrp());
+    let Account { prices, returns, covariance, resample_by, use_shrinkage, .. } = *account;
+    let said = model.allocate(names(account.assets), prices, returns, covariance, resample_by, use_shrinkage);
     said.map_err(|e| match e {
         HrpError::NoData => 1,
         HrpError::DimensionMismatch(_) => 3,
@@ -142,4 +186,57 @@ pub fn hrp_allocate(account: &Account) -> Result<Allocation, u8> {
         correlations: model.seriated_correlations.expect("correlations"),
         distances: model.seriated_distances.expect("distances"),
     })
+}
+
+/// A refusal's number and, after 6, the clusters that were asked for and the assets.
+#[derive(Clone, Copy, PartialEq, Debug)]
+pub struct Refused {
+    pub number: u8,
+    pub asked: [usize; 2],
+}
+
+impl From<u8> for Refused {
+    fn from(number: u8) -> Self {
+        Self { number, asked: [0; 2] }
+    }
+}
+
+/// What HCAA's public call is handed, and how its allocator was made.
+pub struct HcaaAccount<'a> {
+    pub assets: usize,
+    pub prices: Option<&'a DMatrix<f64>>,
+    pub returns: Option<&'a DMatrix<f64>>,
+    pub covariance: Option<&'a DMatrix<f64>>,
+    pub expected: Option<&'a [f64]>,
+    pub metric: &'a str,
+    pub method: &'a str,
+    pub clusters: Option<usize>,
+    pub resample_by: Option<&'a str>,
+    pub distance: Distance,
+    pub linkage: Linkage,
+}
+
+pub struct HcaaAllocation {
+    pub rows: Vec<usize>,
+    pub order: Vec<usize>,
+    pub weights: Vec<f64>,
+}
+
+/// The tail-risk metrics, which take a level of confidence, are 12 before this is called.
+pub fn hcaa_allocate(account: &HcaaAccount) -> Result<HcaaAllocation, Refused> {
+    let mut model = HierarchicalClusteringAssetAllocation::new(account.method);
+    model.distance = account.distance.hcaa();
+    model.linkage = account.linkage.hcaa();
+    let HcaaAccount { prices, returns, covariance, expected, metric, clusters, resample_by, .. } = *account;
+    let said = model.allocate(names(account.assets), prices, returns, covariance, expected, metric, 0.05, clusters, resample_by);
+    said.map_err(|e| match e {
+        HcaaError::NoData => 1.into(),
+        HcaaError::UnknownAllocationMetric(_) => 2.into(),
+        HcaaError::DimensionMismatch(_) => 3.into(),
+        HcaaError::MissingExpectedReturnsForSharpe => 4.into(),
+        HcaaError::UnknownReturns(_) => 5.into(),
+        HcaaError::InvalidNumClusters { requested, assets } => Refused { number: 6, asked: [requested, assets] },
+        other => panic!("allocate gives no {other}"),
+    })?;
+    Ok(HcaaAllocation { rows: model.clusters.concat(), order: model.ordered_indices, weights: model.weights })
 }

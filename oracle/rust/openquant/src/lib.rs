@@ -70,7 +70,7 @@ mod hcaa_open {
     include!(concat!(env!("OUT_DIR"), "/hcaa.rs"));
 
     pub(crate) mod door {
-        use super::{DMatrix, HcaaError};
+        use super::{DMatrix, HcaaError, MetricInputs};
 
         fn number(e: HcaaError) -> u8 {
             match e {
@@ -114,6 +114,22 @@ mod hcaa_open {
 
         pub fn cluster_sharpe(expected: &[f64], cov: &DMatrix<f64>, assets: &[usize]) -> Result<f64, u8> {
             super::cluster_sharpe(expected, cov, assets).map_err(number)
+        }
+
+        /// From the last row's node with weight 1, as `allocate` calls it.
+        pub fn allocate_down_tree(
+            rows: &[[usize; 2]],
+            assets: usize,
+            clusters: usize,
+            metric: &str,
+            expected: &[f64],
+            cov: &DMatrix<f64>,
+        ) -> Result<Vec<f64>, u8> {
+            let returns = DMatrix::zeros(0, assets);
+            let inputs = MetricInputs { expected, returns: &returns, cov, metric, confidence_level: 0.05 };
+            let mut weights = vec![0.0; assets];
+            super::allocate_down_tree(rows, assets, clusters, 2 * assets - 2, 1.0, &inputs, &mut weights).map_err(number)?;
+            Ok(weights)
         }
     }
 }

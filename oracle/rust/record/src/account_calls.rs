@@ -22,11 +22,11 @@ impl Matrix {
         Self { given: false, rows: 0, columns: 0, cells: Vec::new() }
     }
 
-    fn handed(&self) -> Handed {
+    pub fn handed(&self) -> Handed {
         Handed { given: self.given, rows: self.rows, columns: self.columns, len: self.cells.len() }
     }
 
-    fn made(&self) -> Option<DMatrix<f64>> {
+    pub fn made(&self) -> Option<DMatrix<f64>> {
         self.given.then(|| DMatrix::from_row_slice(self.rows, self.columns, &self.cells))
     }
 }
@@ -46,13 +46,13 @@ pub struct Hrp {
 impl Hrp {
     /// An account of these matrices in buffers with a little room to spare.
     pub fn new(assets: usize, matrices: [Matrix; 3]) -> Self {
-        let rooms = need::account(assets).map(|need| need + 3);
+        let rooms = need::hrp(assets).map(|need| need + 3);
         Self { distance: Distance::DistanceOfDistances, shrink: false, name: Vec::new(), assets, matrices, rooms }
     }
 
     /// Bytes that are no text, which the source cannot be handed, are no name.
     fn run(&self) -> Result<api::Allocation, u8> {
-        rules::account(self.assets, &self.matrices.each_ref().map(Matrix::handed), &self.rooms)?;
+        rules::account(self.assets, &self.matrices.each_ref().map(Matrix::handed), &self.rooms, need::hrp)?;
         let [prices, returns, covariance] = self.matrices.each_ref().map(Matrix::made);
         api::hrp_allocate(&Account {
             assets: self.assets,
@@ -75,6 +75,17 @@ fn cells(m: &DMatrix<f64>) -> Vec<f64> {
 
 fn row(cells: Vec<f64>) -> Table {
     Table { rows: 1, columns: cells.len(), cells: Cells::Doubles(cells) }
+}
+
+impl Line {
+    /// `len`, and so many bytes.
+    pub fn bytes(self, list: &[u8]) -> Self {
+        list.iter().fold(self.number(list.len()), |line, &b| line.number(b as usize))
+    }
+
+    pub fn matrix(self, m: &Matrix) -> Self {
+        self.number(m.given as usize).number(m.rows).number(m.columns).cells(&m.cells)
+    }
 }
 
 impl Record {
@@ -111,13 +122,9 @@ impl Record {
     }
 
     pub fn hrp_allocate(&mut self, account: &Hrp) {
-        let name: Vec<usize> = account.name.iter().map(|&b| b as usize).collect();
-        let mut call = Line::default().number(5).number(account.distance as usize).number(account.shrink as usize);
-        call = call.list(&name).number(account.assets);
-        for m in &account.matrices {
-            call = call.number(m.given as usize).number(m.rows).number(m.columns).cells(&m.cells);
-        }
-        call = call.numbers(&account.rooms);
+        let call = Line::default().number(5).number(account.distance as usize).number(account.shrink as usize);
+        let call = call.bytes(&account.name).number(account.assets);
+        let call = account.matrices.iter().fold(call, Line::matrix).numbers(&account.rooms);
         let answer = account.run();
         let told = match &answer {
             Err(refusal) => Line::default().number(*refusal as usize).numbers(&[0; 5]),

@@ -2,11 +2,12 @@
 #![allow(unused_must_use)]
 use crate::account_calls::{Hrp, Matrix};
 use crate::calls::Record;
-use crate::cases::{filled, mirrored, square, HUGE};
+use crate::cases::HUGE;
+use crate::kinds::{covariance, diagonal, filled, mirrored, square, wild};
 use crate::random::{Random, ODD};
 use openquant::api::Distance;
 
-const DISTANCES: [Distance; 2] = [Distance::Correlation, Distance::DistanceOfDistances];
+pub const DISTANCES: [Distance; 2] = [Distance::Correlation, Distance::DistanceOfDistances];
 
 const WHOLE: [usize; 6] = [200, 100, 100, 4200, 4200, 8300];
 
@@ -16,22 +17,6 @@ fn cluster(out: &mut Record, expected: &[f64], rows: usize, columns: usize, cov:
     out.inverse_variance_weights(rows, columns, cov, assets, assets.len() + spare);
     out.cluster_variance(rows, columns, cov, assets);
     out.cluster_sharpe(expected, rows, columns, cov, assets);
-}
-
-fn diagonal(variances: &[f64]) -> Vec<f64> {
-    square(variances.len(), |i, j| if i == j { variances[i] } else { 0.0 })
-}
-
-/// Like a covariance: variances of their own, and small numbers between, copied across.
-fn covariance(rng: &mut Random, n: usize) -> Vec<f64> {
-    let mut out = mirrored(n, 0.0, || rng.gain());
-    (0..n).for_each(|i| out[i * n + i] = 0.01 + rng.unit());
-    out
-}
-
-/// Variances that are positive or NaN among any bits.
-fn wild(rng: &mut Random, n: usize) -> Vec<f64> {
-    square(n, |i, j| if i == j { rng.wild().abs() } else { rng.wild() })
 }
 
 fn clusters(out: &mut Record, rng: &mut Random) {
@@ -127,7 +112,7 @@ fn clusters(out: &mut Record, rng: &mut Random) {
 }
 
 /// The covariances that both the bisection and whole accounts are run on.
-fn figures() -> Vec<(usize, Vec<f64>)> {
+pub fn figures() -> Vec<(usize, Vec<f64>)> {
     let inf = f64::INFINITY;
     let tiny = 1.0 / (1u64 << 60) as f64;
     let mut far = diagonal(&[1.0; 4]);
@@ -250,23 +235,23 @@ fn uneven(i: usize, j: usize) -> f64 {
     0.05 * (i as f64 - 0.7 * j as f64)
 }
 
-fn given(n: usize, cov: Vec<f64>) -> [Matrix; 3] {
+pub fn given(n: usize, cov: Vec<f64>) -> [Matrix; 3] {
     [Matrix::absent(), Matrix::absent(), Matrix::of(n, n, cov)]
 }
 
-fn from_returns(rows: usize, n: usize, cells: Vec<f64>) -> [Matrix; 3] {
+pub fn from_returns(rows: usize, n: usize, cells: Vec<f64>) -> [Matrix; 3] {
     [Matrix::absent(), Matrix::of(rows, n, cells), Matrix::absent()]
 }
 
-fn from_prices(rows: usize, n: usize, cells: Vec<f64>) -> [Matrix; 3] {
+pub fn from_prices(rows: usize, n: usize, cells: Vec<f64>) -> [Matrix; 3] {
     [Matrix::of(rows, n, cells), Matrix::absent(), Matrix::absent()]
 }
 
-fn returns(rng: &mut Random, rows: usize, n: usize) -> Vec<f64> {
+pub fn returns(rng: &mut Random, rows: usize, n: usize) -> Vec<f64> {
     filled(rows * n, || rng.gain())
 }
 
-fn prices(rng: &mut Random, rows: usize, n: usize) -> Vec<f64> {
+pub fn prices(rng: &mut Random, rows: usize, n: usize) -> Vec<f64> {
     filled(rows * n, || rng.price())
 }
 
@@ -276,7 +261,7 @@ fn both(out: &mut Record, account: &Hrp) {
         let mut account = account.clone();
         account.distance = distance;
         if distance == Distance::Correlation {
-            account.rooms = crate::rules::need::account(account.assets);
+            account.rooms = crate::rules::need::hrp(account.assets);
         }
         out.hrp_allocate(&account);
     }
@@ -319,11 +304,11 @@ fn each_given(account: &mut Hrp, change: impl Fn(&mut Matrix)) {
     account.matrices.iter_mut().filter(|m| m.given).for_each(change);
 }
 
-fn shorten(m: &mut Matrix) {
+pub fn shorten(m: &mut Matrix) {
     m.cells.pop();
 }
 
-fn resized(m: &mut Matrix, rows: usize, columns: usize) {
+pub fn resized(m: &mut Matrix, rows: usize, columns: usize) {
     if m.given {
         let cell = m.cells.first().copied().unwrap_or(1.0);
         *m = Matrix::of(rows, columns, (0..rows * columns).map(|k| cell + 0.125 * ((k * k) % 7) as f64).collect());
@@ -518,4 +503,5 @@ pub fn all(out: &mut Record, rng: &mut Random) {
     clusters(out, rng);
     bisections(out, rng);
     accounts(out, rng);
+    crate::hcaa_cases::all(out, rng);
 }

@@ -199,7 +199,7 @@ impl Record {
     }
 
     pub fn quasi_diagonalization(&mut self, n: usize, node: usize, ids: &[usize], room: usize) {
-        let answer = rules::leaf_order(n, node, ids, room).map(|()| {
+        let answer = rules::leaf_order(n, node, ids, &[room]).map(|()| {
             let rows: Vec<[usize; 2]> = ids.chunks(2).map(|r| [r[0], r[1]]).collect();
             let leaves = api::quasi_diagonalization(n, &rows, node);
             Table { rows: 1, columns: leaves.len(), cells: Cells::Numbers(leaves) }

@@ -1,35 +1,15 @@
 //! What is called.
 #![allow(unused_must_use)]
 use crate::calls::{Answer, Cells, Op, Record};
+use crate::kinds::{any_tree, filled, mirrored, square, DISTANCES, TINY};
 use crate::random::{Random, ODD};
 use openquant::api::{Linkage, Measure};
 
 pub const HUGE: usize = usize::MAX;
 
-const METHODS: [Linkage; 4] = [Linkage::Single, Linkage::Complete, Linkage::Average, Linkage::Ward];
+pub const METHODS: [Linkage; 4] = [Linkage::Single, Linkage::Complete, Linkage::Average, Linkage::Ward];
 
 const MEASURES: [Measure; 2] = [Measure::Hrp, Measure::Hcaa];
-
-pub fn filled(count: usize, cell: impl FnMut() -> f64) -> Vec<f64> {
-    std::iter::repeat_with(cell).take(count).collect()
-}
-
-/// n by n, each cell by its row and column.
-pub fn square(n: usize, mut cell: impl FnMut(usize, usize) -> f64) -> Vec<f64> {
-    (0..n * n).map(|k| cell(k / n, k % n)).collect()
-}
-
-/// n by n, the upper triangle by `cell`, copied across, and `diagonal` between.
-pub fn mirrored(n: usize, diagonal: f64, mut cell: impl FnMut() -> f64) -> Vec<f64> {
-    let mut out = vec![diagonal; n * n];
-    for i in 0..n {
-        for j in i + 1..n {
-            out[i * n + j] = cell();
-            out[j * n + i] = out[i * n + j];
-        }
-    }
-    out
-}
 
 /// The steps of a pipeline whose answers are doubles.
 fn doubles(answer: Answer) -> Vec<f64> {
@@ -258,51 +238,6 @@ fn distances(out: &mut Record, rng: &mut Random) {
     }
 }
 
-/// A distance matrix of one kind.
-type Kind = fn(&mut Random, usize) -> Vec<f64>;
-
-/// Any bits but a signalling NaN, on which the source and document 01 part (docs/DIFFERENCES.md).
-fn quiet(x: f64) -> f64 {
-    if x.is_nan() {
-        f64::from_bits(x.to_bits() | 0x0008_0000_0000_0000)
-    } else {
-        x
-    }
-}
-
-const TINY: f64 = 1.0 / (1u64 << 40) as f64;
-
-const KINDS: [Kind; 21] = [
-    |rng, n| mirrored(n, 0.0, || 2.0 * rng.unit()),
-    |rng, n| square(n, |_, _| 2.0 * rng.unit()),
-    // Few values, so many ties.
-    |rng, n| mirrored(n, 0.0, || rng.pick(&[0.5, 1.0, 1.5])),
-    |rng, n| square(n, |_, _| rng.pick(&[0.5, 1.0])),
-    // Ties that are not transitive: 2^-40 is within 1e-12 and 2^-39 is not.
-    |rng, n| mirrored(n, 0.0, || 1.0 - rng.below(6) as f64 * TINY),
-    |rng, n| square(n, |_, _| 1.0 + rng.pick(&[0.0, -TINY, -2.0 * TINY, TINY])),
-    |rng, n| mirrored(n, 0.0, || 0.25 + rng.below(20) as f64 * TINY / 2.0),
-    // At 1e-12 itself and a step of the doubles to each side.
-    |rng, n| mirrored(n, 0.0, || f64::from_bits(1e-12f64.to_bits() + 1 - rng.below(3) as u64) * rng.below(3) as f64),
-    // Some NaN, much NaN, nothing but NaN.
-    |rng, n| mirrored(n, 0.0, || rng.seldom(6, 1.0)),
-    |rng, n| square(n, |_, _| rng.seldom(4, 0.75)),
-    |rng, n| mirrored(n, 0.0, || if rng.below(3) == 0 { f64::NAN } else { rng.unit() }),
-    |rng, n| square(n, |_, _| if rng.below(2) == 0 { f64::NAN } else { rng.unit() }),
-    |_, n| vec![f64::NAN; n * n],
-    // All equal.
-    |_, n| vec![1.0; n * n],
-    |_, n| vec![0.0; n * n],
-    |_, n| vec![f64::INFINITY; n * n],
-    // Infinities, both zeros, huge, tiny, negative.
-    |rng, n| mirrored(n, 0.0, || rng.pick(&[f64::INFINITY, f64::NEG_INFINITY, 1.0, 2.0])),
-    |rng, n| mirrored(n, -0.0, || rng.pick(&[0.0, -0.0, f64::from_bits(1), -f64::from_bits(1)])),
-    |rng, n| mirrored(n, 0.0, || (rng.unit() - 0.5) * f64::MAX * 2.0),
-    |rng, n| square(n, |_, _| quiet(rng.wild())),
-    // Squares at the top of the range: a product in another order overflows.
-    |rng, n| mirrored(n, 0.0, || (0.95 + 0.13 * rng.unit()) * 1e154),
-];
-
 fn trees(out: &mut Record, rng: &mut Random) {
     limits(out, Op::LinkageChildren(Linkage::Single));
     // Document 01's figures.
@@ -316,7 +251,7 @@ fn trees(out: &mut Record, rng: &mut Random) {
         out.call(op, 3, 3, &[0.0, 1.0, 1.0, 1.0, 0.0, far, 1.0, far, 0.0]);
     }
     for n in [2, 3, 4, 5] {
-        for kind in KINDS {
+        for kind in DISTANCES {
             for method in METHODS {
                 let d = kind(rng, n);
                 let rows = numbers(out.call(Op::LinkageChildren(method), n, n, &d));
@@ -326,7 +261,7 @@ fn trees(out: &mut Record, rng: &mut Random) {
             }
         }
     }
-    for (n, kinds) in [(7, &KINDS[..]), (9, &KINDS[..12]), (13, &KINDS[4..8])] {
+    for (n, kinds) in [(7, &DISTANCES[..]), (9, &DISTANCES[..12]), (13, &DISTANCES[4..8])] {
         for kind in kinds {
             let method = rng.pick(&METHODS);
             let rows = numbers(out.call(Op::LinkageChildren(method), n, n, &kind(rng, n)));
@@ -335,13 +270,13 @@ fn trees(out: &mut Record, rng: &mut Random) {
     }
     for n in [6, 11, 12] {
         for method in METHODS {
-            out.call(Op::LinkageChildren(method), n, n, &KINDS[0](rng, n));
+            out.call(Op::LinkageChildren(method), n, n, &DISTANCES[0](rng, n));
         }
     }
-    out.call(Op::LinkageChildren(Linkage::Complete), 20, 20, &KINDS[0](rng, 20));
-    out.call(Op::LinkageChildren(Linkage::Average), 32, 32, &KINDS[0](rng, 32));
-    out.call(Op::LinkageChildren(Linkage::Single), 24, 24, &KINDS[6](rng, 24));
-    let rows = numbers(out.call(Op::LinkageChildren(Linkage::Ward), 64, 64, &KINDS[0](rng, 64)));
+    out.call(Op::LinkageChildren(Linkage::Complete), 20, 20, &DISTANCES[0](rng, 20));
+    out.call(Op::LinkageChildren(Linkage::Average), 32, 32, &DISTANCES[0](rng, 32));
+    out.call(Op::LinkageChildren(Linkage::Single), 24, 24, &DISTANCES[6](rng, 24));
+    let rows = numbers(out.call(Op::LinkageChildren(Linkage::Ward), 64, 64, &DISTANCES[0](rng, 64)));
     nodes(out, rng, 64, &rows);
 }
 
@@ -352,20 +287,6 @@ fn nodes(out: &mut Record, rng: &mut Random, n: usize, ids: &[usize]) {
         out.quasi_diagonalization(n, node, ids, n + rng.below(3));
     }
     out.quasi_diagonalization(n, root + 1, ids, n);
-}
-
-/// Rows that join any two nodes which no row has joined yet, either first.
-fn any_tree(rng: &mut Random, n: usize) -> Vec<usize> {
-    let mut free: Vec<usize> = (0..n).collect();
-    let mut ids = Vec::new();
-    for k in 0..n - 1 {
-        for _ in 0..2 {
-            let at = rng.below(free.len());
-            ids.push(free.swap_remove(at));
-        }
-        free.push(n + k);
-    }
-    ids
 }
 
 fn leaves(out: &mut Record, rng: &mut Random) {

@@ -4,6 +4,9 @@ mod account_calls;
 mod account_cases;
 mod calls;
 mod cases;
+mod hcaa_calls;
+mod hcaa_cases;
+mod kinds;
 mod random;
 mod rules;
 

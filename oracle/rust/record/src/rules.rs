@@ -1,12 +1,13 @@
 //! The refusals that the source does not have, by document 01's sentences. "Always 9, 10, 11 first."
+use openquant::api::Refused;
 
 /// 9: "a number of assets, rows, columns or cells, or a text, is over its limit"; "a matrix has at most 64 columns, 4,096 rows and 4,096 cells".
 fn over_limit(rows: usize, columns: usize) -> bool {
     rows > 4096 || columns > 64 || rows * columns > 4096
 }
 
-/// The sizes of one matrix of `len` cells whose answer needs `need` entries of a buffer of `room`; `square` where it must be.
-pub fn matrix(rows: usize, columns: usize, len: usize, room: usize, need: impl Fn() -> usize, square: bool) -> Result<(), u8> {
+/// 9, 10 and 11 of one matrix of `len` cells whose answer needs `need` entries of a buffer of `room`.
+pub fn sized(rows: usize, columns: usize, len: usize, room: usize, need: impl Fn() -> usize) -> Result<(), u8> {
     if over_limit(rows, columns) {
         return Err(9);
     }
@@ -18,19 +19,32 @@ pub fn matrix(rows: usize, columns: usize, len: usize, room: usize, need: impl F
     if room < need() {
         return Err(11);
     }
-    // 3: "a matrix that must be square and isn't".
-    if square && rows != columns {
+    Ok(())
+}
+
+/// 3: "a matrix that must be square and isn't".
+pub fn square(rows: usize, columns: usize) -> Result<(), u8> {
+    if rows != columns {
         return Err(3);
     }
     Ok(())
 }
 
-/// The leaf order's own: 9 over n, 11 ("n for order"), then "n = 0 is 1, then 14".
-pub fn leaf_order(n: usize, node: usize, ids: &[usize], room: usize) -> Result<(), u8> {
+/// `sized`, and `square` where it must be.
+pub fn matrix(rows: usize, columns: usize, len: usize, room: usize, need: impl Fn() -> usize, must: bool) -> Result<(), u8> {
+    sized(rows, columns, len, room, need)?;
+    if must {
+        square(rows, columns)?;
+    }
+    Ok(())
+}
+
+/// The leaf order's own: 9 over n, 11 ("n for order", and one number for the count where that is lent too), then "n = 0 is 1, then 14".
+pub fn leaf_order(n: usize, node: usize, ids: &[usize], rooms: &[usize]) -> Result<(), u8> {
     if n > 64 {
         return Err(9);
     }
-    if room < n {
+    if rooms.iter().zip([n, 1]).any(|(&room, need)| room < need) {
         return Err(11);
     }
     if n == 0 {
@@ -79,6 +93,45 @@ pub fn bisection(rows: usize, columns: usize, len: usize, given: &[usize], room:
     Ok(())
 }
 
+/// What a weight is shared down: merge rows, a covariance of `len` cells and, under Sharpe, expected returns, where there are any.
+pub struct Sharing<'a> {
+    pub sharpe: bool,
+    pub clusters: usize,
+    pub assets: usize,
+    pub expected: Option<usize>,
+    pub rows: usize,
+    pub columns: usize,
+    pub len: usize,
+    pub ids: &'a [usize],
+    pub room: usize,
+}
+
+/// "Sharing down given merge rows (after its 3): n = 0 is 1, then 14", then as HCAA's: 4, 6. The 3 is the covariance's size, then the expected
+/// returns' length.
+pub fn sharing(s: &Sharing) -> Result<(), Refused> {
+    if s.assets > 64 {
+        return Err(9.into());
+    }
+    sized(s.rows, s.columns, s.len, s.room, || s.assets)?;
+    let other = s.sharpe && s.expected.is_some_and(|len| len != s.assets);
+    if s.rows != s.assets || s.columns != s.assets || other {
+        return Err(3.into());
+    }
+    if s.assets == 0 {
+        return Err(1.into());
+    }
+    if !is_tree(s.ids, s.assets) {
+        return Err(14.into());
+    }
+    if s.sharpe && s.expected.is_none() {
+        return Err(4.into());
+    }
+    if s.clusters == 0 || s.clusters > s.assets {
+        return Err(Refused { number: 6, asked: [s.clusters, s.assets] });
+    }
+    Ok(())
+}
+
 /// A matrix of an account: its sizes, how many cells were handed over, and whether it is there at all.
 #[derive(Clone, Copy)]
 pub struct Handed {
@@ -88,9 +141,19 @@ pub struct Handed {
     pub len: usize,
 }
 
-/// An account's 9 over all counts and given matrices, then 10 over all, then 11 over all six buffers: rows, order, weights, correlations,
-/// distances and scratch.
-pub fn account(assets: usize, matrices: &[Handed; 3], rooms: &[usize; 6]) -> Result<(), u8> {
+impl Handed {
+    pub fn any(matrices: &[Handed; 3]) -> bool {
+        matrices.iter().any(|m| m.given)
+    }
+}
+
+/// An account's 9 over all counts and given matrices, then 10 over all, then 11 over all its buffers.
+pub fn account<const B: usize>(
+    assets: usize,
+    matrices: &[Handed; 3],
+    rooms: &[usize; B],
+    needs: fn(usize) -> [usize; B],
+) -> Result<(), u8> {
     let given = || matrices.iter().filter(|m| m.given);
     if assets > 64 || given().any(|m| over_limit(m.rows, m.columns)) {
         return Err(9);
@@ -98,8 +161,17 @@ pub fn account(assets: usize, matrices: &[Handed; 3], rooms: &[usize; 6]) -> Res
     if given().any(|m| m.len != m.rows * m.columns) {
         return Err(10);
     }
-    if rooms.iter().zip(need::account(assets)).any(|(&room, need)| room < need) {
+    if rooms.iter().zip(needs(assets)).any(|(&room, need)| room < need) {
         return Err(11);
+    }
+    Ok(())
+}
+
+/// 12: HCAA's order begins "no matrix at all 1; metric 2, then 12". The source knows the two names, so it gives the 1 and the 2.
+pub fn tail_risk(any_matrix: bool, metric: &[u8]) -> Result<(), u8> {
+    let tail = metric == b"expected_shortfall" || metric == b"conditional_drawdown_risk";
+    if tail && any_matrix {
+        return Err(12);
     }
     Ok(())
 }
@@ -136,7 +208,15 @@ pub mod need {
     }
 
     /// "Scratch has under 8,192 doubles."
-    pub fn account(assets: usize) -> [usize; 6] {
-        [children(assets), assets, assets, square(assets), square(assets), 8192]
+    const SCRATCH: usize = 8192;
+
+    /// Rows, order, weights, correlations, distances, scratch.
+    pub fn hrp(assets: usize) -> [usize; 6] {
+        [children(assets), assets, assets, square(assets), square(assets), SCRATCH]
+    }
+
+    /// Rows, order, weights, scratch.
+    pub fn hcaa(assets: usize) -> [usize; 4] {
+        [children(assets), assets, assets, SCRATCH]
     }
 }

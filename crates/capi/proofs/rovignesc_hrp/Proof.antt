@@ -1,0 +1,122 @@
+-- `capi::rovignesc_hrp` meets its contract. Assumes nothing.
+use Rattle.capi.proofs.Calls.{hrp-refused, hrp-done}
+use borrow.Author.Needs.{needs}
+use Rattle.capi.proofs.rovignesc_hrp.Statement.{statement}
+use Rattle.capi.proofs.rovignesc_hrp.Tie as tie
+
+shape-requires : tie.Need-shape-requires
+shape-requires c κs = search needs
+
+shape-requires-2 : tie.Need-shape-requires-2
+shape-requires-2 c κs = search needs
+
+shape-requires-3 : tie.Need-shape-requires-3
+shape-requires-3 c κs = search needs
+
+judge-hrp-requires : tie.Need-judge-hrp-requires
+judge-hrp-requires c κs = search needs
+
+enum-told : tie.Need-enum-told
+enum-told c = search needs
+
+enum-told-2 : tie.Need-enum-told-2
+enum-told-2 c = search needs
+
+clear-all-requires : tie.Need-clear-all-requires
+clear-all-requires c κs = search needs
+
+number-requires : tie.Need-number-requires
+number-requires c κs = search needs
+
+same-length : tie.Need-same-length
+same-length c = search needs
+
+same-length-2 : tie.Need-same-length-2
+same-length-2 c = search needs
+
+same-length-3 : tie.Need-same-length-3
+same-length-3 c = search needs
+
+same-length-4 : tie.Need-same-length-4
+same-length-4 c = search needs
+
+same-length-5 : tie.Need-same-length-5
+same-length-5 c = search needs
+
+same-length-6 : tie.Need-same-length-6
+same-length-6 c = search needs
+
+returns : tie.Need-returns
+returns c =
+    let p = c .before .before .before .before .before .before .before .before .before .before .before .before .before .before .before .before .before .before .before .before .before .before .before .before .before .shape .ensures in
+    let x = c .before .before .before .before .before .before .before .before .before .before .before .before .before .before .before .before .before .before .before .before .before .before .before .before .shape2 .ensures in
+    let v = c .before .before .before .before .before .before .before .before .before .before .before .before .before .before .before .before .before .before .before .before .before .before .before .shape3 .ensures in
+    let e = c .before .before .before .before .before .before .before .before .before .before .before .before .before .before .before .before .before .before .before .before .before .before .judge-hrp .ensures in
+    let h = c .before .before .before .before .before .before .before .before .before .before .before .before .before .before .before .before .before .before .before .before .enum-told2 .given .1 in
+    hrp-refused _ _ _ _ p _ _ _ x _ _ _ v _ _ _ _ _ e _ _ _ _ _ _ _ _ h (c .number .ensures) (c .before .before .before .before .before .before .before .before .before .before .before .before .before .clear-all .ensures)
+
+distance-in-requires : tie.Need-distance-in-requires
+distance-in-requires c κs = search needs
+
+allocate-requires : tie.Need-allocate-requires
+allocate-requires c κs = search needs
+
+number-requires-2 : tie.Need-number-requires-2
+number-requires-2 c κs = search needs
+
+same-length-7 : tie.Need-same-length-7
+same-length-7 c = search needs
+
+same-length-8 : tie.Need-same-length-8
+same-length-8 c = search needs
+
+same-length-9 : tie.Need-same-length-9
+same-length-9 c = search needs
+
+same-length-10 : tie.Need-same-length-10
+same-length-10 c = search needs
+
+same-length-11 : tie.Need-same-length-11
+same-length-11 c = search needs
+
+same-length-12 : tie.Need-same-length-12
+same-length-12 c = search needs
+
+returns-2 : tie.Need-returns-2
+returns-2 c =
+    let p = c .before .before .before .before .before .before .before .before .before .before .before .before .before .before .before .before .before .before .before .before .before .before .before .before .before .before .shape .ensures in
+    let x = c .before .before .before .before .before .before .before .before .before .before .before .before .before .before .before .before .before .before .before .before .before .before .before .before .before .shape2 .ensures in
+    let v = c .before .before .before .before .before .before .before .before .before .before .before .before .before .before .before .before .before .before .before .before .before .before .before .before .shape3 .ensures in
+    let e = c .before .before .before .before .before .before .before .before .before .before .before .before .before .before .before .before .before .before .before .before .before .before .before .judge-hrp .ensures in
+    let h = c .before .before .before .before .before .before .before .before .before .before .before .before .before .before .before .before .before .before .before .before .before .enum-told .given .1 in
+    hrp-done _ _ _ _ p _ _ _ x _ _ _ v _ _ _ _ _ e _ _ _ _ _ _ _ h _ (c .number2 .ensures) (rw (c .before .before .before .before .before .before .before .before .before .before .before .before .before .before .before .before .before .before .before .before .distance-in .ensures) at (c .before .before .before .before .before .before .before .before .before .before .before .before .before .allocate .ensures))
+
+pub rovignesc-hrp-spec : {M : Type 1} → statement M
+rovignesc-hrp-spec =
+    tie.close
+    (tie.spec
+    shape-requires
+    shape-requires-2
+    shape-requires-3
+    judge-hrp-requires
+    enum-told
+    enum-told-2
+    clear-all-requires
+    number-requires
+    same-length
+    same-length-2
+    same-length-3
+    same-length-4
+    same-length-5
+    same-length-6
+    returns
+    distance-in-requires
+    allocate-requires
+    number-requires-2
+    same-length-7
+    same-length-8
+    same-length-9
+    same-length-10
+    same-length-11
+    same-length-12
+    returns-2)

@@ -1,0 +1,280 @@
+//! Times our library and the Rust on the same matrices: a line `WHAT N OURS-ns RUST-ns RATIO` for each, medians of calls that take turns.
+use compare::kinds::{covariance, filled};
+use compare::ours::{rovignesc_hcaa, rovignesc_hrp, rovignesc_linkage_children, rovignesc_listing, rovignesc_sqrt};
+use compare::random::Random;
+use nalgebra::DMatrix;
+use openquant::api::{self, Account, Distance, HcaaAccount, Linkage};
+use std::hint::black_box;
+use std::ptr::null;
+use std::time::Instant;
+
+const SAMPLES: usize = 151;
+
+/// A sample repeats its call until about this many nanoseconds have passed: few, so that most samples are not interrupted.
+const SAMPLE: f64 = 2e5;
+
+const ASSETS: [usize; 4] = [8, 16, 32, 64];
+
+const RETURN_ROWS: usize = 60;
+
+fn nanoseconds(times: usize, call: &mut impl FnMut()) -> f64 {
+    let start = Instant::now();
+    (0..times).for_each(|_| call());
+    start.elapsed().as_nanos() as f64 / times as f64
+}
+
+/// How often a call is made in one sample; the first calls also warm it up.
+fn repeats(call: &mut impl FnMut()) -> usize {
+    let once = nanoseconds(3, call).max(1.0);
+    (SAMPLE / once).ceil().clamp(1.0, 1e6) as usize
+}
+
+fn median(mut samples: Vec<f64>) -> f64 {
+    samples.sort_by(f64::total_cmp);
+    samples[samples.len() / 2]
+}
+
+/// An answer that the compiler must think is read.
+fn keep<T>(answer: T) {
+    black_box(answer);
+}
+
+/// Both sides by turns; a call does `each` of what is timed.
+fn beside(what: &str, n: usize, each: usize, mut ours: impl FnMut(), mut theirs: impl FnMut()) {
+    let (a, b) = (repeats(&mut ours), repeats(&mut theirs));
+    let sample = |_| (nanoseconds(a, &mut ours), nanoseconds(b, &mut theirs));
+    let (ours, theirs): (Vec<f64>, Vec<f64>) = (0..SAMPLES).map(sample).unzip();
+    let (ours, theirs) = (median(ours) / each as f64, median(theirs) / each as f64);
+    println!("{what} {n} {ours:.1} {theirs:.1} {:.2}", ours / theirs);
+}
+
+fn alone(what: &str, n: usize, mut ours: impl FnMut()) {
+    let times = repeats(&mut ours);
+    let samples = (0..SAMPLES).map(|_| nanoseconds(times, &mut ours)).collect();
+    println!("{what} {n} {:.1} - -", median(samples));
+}
+
+/// The lent buffers of any account.
+struct Buffers {
+    rows: Vec<usize>,
+    order: Vec<usize>,
+    weights: Vec<f64>,
+    correlations: Vec<f64>,
+    distances: Vec<f64>,
+    scratch: Vec<f64>,
+    asked: [usize; 2],
+}
+
+impl Buffers {
+    fn new(n: usize) -> Self {
+        Self {
+            rows: vec![7; 2 * (n - 1)],
+            order: vec![7; n],
+            weights: vec![1.5; n],
+            correlations: vec![1.5; n * n],
+            distances: vec![1.5; n * n],
+            scratch: vec![1.5; 8192],
+            asked: [7; 2],
+        }
+    }
+}
+
+/// An account's one matrix.
+struct Given {
+    assets: usize,
+    rows: usize,
+    cells: Vec<f64>,
+    returns: bool,
+}
+
+impl Given {
+    fn flag(&self, returns: bool) -> u8 {
+        (self.returns == returns) as u8
+    }
+
+    fn matrix(&self) -> DMatrix<f64> {
+        DMatrix::from_row_slice(self.rows, self.assets, &self.cells)
+    }
+}
+
+fn ours_hrp(g: &Given, b: &mut Buffers) -> u8 {
+    let (at, len) = (g.cells.as_ptr(), g.cells.len());
+    let distance = b"distance_of_distances";
+    // Every slice is a vector of its own; an absent matrix is not read.
+    unsafe {
+        rovignesc_hrp(
+            g.assets,
+            null(),
+            0,
+            0,
+            0,
+            0,
+            at,
+            len,
+            g.flag(true),
+            g.rows,
+            g.assets,
+            at,
+            len,
+            g.flag(false),
+            g.rows,
+            g.assets,
+            null(),
+            0,
+            0,
+            distance.as_ptr(),
+            distance.len(),
+            b.rows.as_mut_ptr(),
+            b.rows.len(),
+            b.order.as_mut_ptr(),
+            b.order.len(),
+            b.weights.as_mut_ptr(),
+            b.weights.len(),
+            b.correlations.as_mut_ptr(),
+            b.correlations.len(),
+            b.distances.as_mut_ptr(),
+            b.distances.len(),
+            b.scratch.as_mut_ptr(),
+            b.scratch.len(),
+        )
+    }
+}
+
+fn ours_hcaa(g: &Given, b: &mut Buffers) -> u8 {
+    let (at, len) = (g.cells.as_ptr(), g.cells.len());
+    let (metric, distance, linkage) = (b"minimum_variance", b"correlation", b"ward");
+    // Every slice is a vector of its own; an absent matrix is not read.
+    unsafe {
+        rovignesc_hcaa(
+            g.assets,
+            null(),
+            0,
+            0,
+            0,
+            0,
+            at,
+            len,
+            g.flag(true),
+            g.rows,
+            g.assets,
+            at,
+            len,
+            g.flag(false),
+            g.rows,
+            g.assets,
+            null(),
+            0,
+            0,
+            metric.as_ptr(),
+            metric.len(),
+            null(),
+            0,
+            0,
+            0,
+            null(),
+            0,
+            distance.as_ptr(),
+            distance.len(),
+            linkage.as_ptr(),
+            linkage.len(),
+            b.rows.as_mut_ptr(),
+            b.rows.len(),
+            b.order.as_mut_ptr(),
+            b.order.len(),
+            b.weights.as_mut_ptr(),
+            b.weights.len(),
+            b.scratch.as_mut_ptr(),
+            b.scratch.len(),
+            b.asked.as_mut_ptr(),
+            b.asked.len(),
+        )
+    }
+}
+
+fn theirs_hrp(g: &Given, m: &DMatrix<f64>) -> Vec<f64> {
+    let (returns, covariance) = (g.returns.then_some(m), (!g.returns).then_some(m));
+    let distance = Distance::DistanceOfDistances;
+    let account = Account { assets: g.assets, prices: None, returns, covariance, resample_by: None, use_shrinkage: false, distance };
+    api::hrp_allocate(&account).map_err(|_| "refused").unwrap().weights
+}
+
+fn theirs_hcaa(g: &Given, m: &DMatrix<f64>) -> Vec<f64> {
+    let account = HcaaAccount {
+        assets: g.assets,
+        prices: None,
+        returns: g.returns.then_some(m),
+        covariance: (!g.returns).then_some(m),
+        expected: None,
+        metric: "minimum_variance",
+        method: "mean",
+        clusters: None,
+        resample_by: None,
+        distance: Distance::Correlation,
+        linkage: Linkage::Ward,
+    };
+    api::hcaa_allocate(&account).map_err(|_| "refused").unwrap().weights
+}
+
+fn accounts(what: &str, given: &[Given], ours: fn(&Given, &mut Buffers) -> u8, theirs: fn(&Given, &DMatrix<f64>) -> Vec<f64>) {
+    for g in given {
+        let (m, mut b) = (g.matrix(), Buffers::new(g.assets));
+        assert_eq!(ours(g, &mut b), 0);
+        assert_eq!(b.weights, theirs(g, &m));
+        beside(what, g.assets, 1, || keep(ours(g, &mut b)), || keep(theirs(g, &m)));
+    }
+}
+
+fn merges(rng: &mut Random) {
+    for n in ASSETS {
+        let cells: Vec<f64> = compare::kinds::mirrored(n, 0.0, || 2.0 * rng.unit());
+        let m = DMatrix::from_row_slice(n, n, &cells);
+        let mut rows = vec![7; 2 * (n - 1)];
+        let mut ours = || {
+            let name = b"ward";
+            // Every slice is a vector of its own.
+            unsafe {
+                rovignesc_linkage_children(cells.as_ptr(), cells.len(), n, n, name.as_ptr(), name.len(), rows.as_mut_ptr(), rows.len())
+            }
+        };
+        assert_eq!(ours(), 0);
+        beside("merge_ward", n, 1, || keep(ours()), || keep(api::linkage_children(&m, Linkage::Ward)));
+    }
+}
+
+/// As many assets as a job's text has room for.
+fn listing(rng: &mut Random) {
+    let n = 62;
+    let cells = covariance(rng, n);
+    let mut text = String::from("hcaa\tminimum_variance\tward\tcorrelation\t-\n");
+    for (i, row) in cells.chunks(n).enumerate() {
+        let row: Vec<String> = row.iter().map(|x| format!("{:016x}", x.to_bits())).collect();
+        text += &format!("{}\t{}\n", char::from(b'0' + i as u8), row.join("\t"));
+    }
+    let (mut out, mut bytes) = (vec![7u8; 8192], [7usize]);
+    // Every slice is a vector of its own.
+    let mut ours = || unsafe { rovignesc_listing(text.as_ptr(), text.len(), out.as_mut_ptr(), out.len(), bytes.as_mut_ptr(), 1) };
+    assert_eq!(ours(), 0);
+    alone("listing", n, || keep(ours()));
+}
+
+/// A row of independent roots, none vectorized; the time is that of one.
+fn roots(rng: &mut Random) {
+    let row = filled(4096, || 1e6 * rng.unit());
+    let ours = || row.iter().for_each(|&x| keep(unsafe { rovignesc_sqrt(x) }));
+    let theirs = || row.iter().for_each(|&x| keep(x.sqrt()));
+    beside("sqrt", row.len(), row.len(), ours, theirs);
+}
+
+fn main() {
+    let mut rng = Random::new(20261115);
+    let from_covariance = ASSETS.map(|n| Given { assets: n, rows: n, cells: covariance(&mut rng, n), returns: false });
+    let from_returns = ASSETS.map(|n| Given { assets: n, rows: RETURN_ROWS, cells: filled(RETURN_ROWS * n, || rng.gain()), returns: true });
+    println!("WHAT N OURS-ns RUST-ns RATIO");
+    merges(&mut rng);
+    accounts("hrp_covariance", &from_covariance, ours_hrp, theirs_hrp);
+    accounts("hrp_returns", &from_returns, ours_hrp, theirs_hrp);
+    accounts("hcaa_covariance", &from_covariance, ours_hcaa, theirs_hcaa);
+    accounts("hcaa_returns", &from_returns, ours_hcaa, theirs_hcaa);
+    listing(&mut rng);
+    roots(&mut rng);
+}

@@ -1,0 +1,92 @@
+//! Job texts to listings.
+use crate::buffers::number;
+use crate::case::{weight_of_rooms, Case, Desk, Judged};
+use crate::ours::rovignesc_listing;
+use crate::random::Random;
+use crate::sheet::{self, LISTING_ROOM};
+use crate::texts;
+
+#[derive(Clone)]
+pub struct Listing {
+    text: Vec<u8>,
+    /// Of the listing, and of the count.
+    rooms: [usize; 2],
+}
+
+impl Case for Listing {
+    const NAME: &'static str = "listing";
+
+    fn make(rng: &mut Random) -> Self {
+        let text = texts::text(rng);
+        let rooms = match rng.below(60) {
+            0 => rng.pick(&[[LISTING_ROOM - 1, 1], [0, 1], [10, 1], [LISTING_ROOM, 0], [0, 0]]),
+            _ => [LISTING_ROOM + rng.pick(&[0, 0, 1, 9, 500]), 1 + rng.below(3)],
+        };
+        Self { text, rooms }
+    }
+
+    fn judge(&self, desk: &mut Desk, junk: &mut Random) -> Judged {
+        let (due, listing) = sheet::listing(&self.text, self.rooms[0], self.rooms[1]);
+        desk.bytes[0].set(&self.text);
+        desk.listing.dirty(self.rooms[0], junk);
+        desk.count.dirty(self.rooms[1], junk);
+        // The slices are the desk's own, and none of them overlaps another.
+        let ours = unsafe {
+            rovignesc_listing(
+                desk.bytes[0].at(),
+                desk.bytes[0].len(),
+                desk.listing.at(),
+                desk.listing.len(),
+                desk.count.at(),
+                desk.count.len(),
+            )
+        };
+        let count = Some(listing.len()).filter(|&len| len > 0);
+        let verdict = number(ours, due)
+            .and_then(|()| desk.listing.holds("listing", &listing))
+            .and_then(|()| desk.count.holds("bytes", count.as_slice()))
+            .and_then(|()| desk.bytes[0].unchanged("text", &self.text));
+        Judged { number: due, listed: false, verdict }
+    }
+
+    fn size(&self) -> usize {
+        self.text.len() + weight_of_rooms(&self.rooms, &[LISTING_ROOM, 1])
+    }
+
+    fn show(&self) -> String {
+        let hex: String = self.text.iter().map(|b| format!("{b:02x}")).collect();
+        format!(
+            "text: {} bytes, \"{}\"\nin hex: {hex}\nrooms of listing, bytes: {:?}\n",
+            self.text.len(),
+            self.text.escape_ascii(),
+            self.rooms
+        )
+    }
+
+    /// A line less, an asset less, a byte less.
+    fn smaller(&self) -> Vec<Self> {
+        let mut out = vec![Self { rooms: [LISTING_ROOM, 1], ..self.clone() }];
+        let lines: Vec<&[u8]> = self.text.split_inclusive(|&b| b == b'\n').collect();
+        for gone in 1..lines.len().min(70) {
+            let kept = || (0..lines.len()).filter(move |k| *k != gone);
+            let narrow = |k: usize| if k == 0 { lines[0].to_vec() } else { without(lines[k], gone) };
+            out.push(Self { text: kept().flat_map(|k| lines[k].to_vec()).collect(), ..*self });
+            out.push(Self { text: kept().flat_map(narrow).collect(), ..*self });
+        }
+        if self.text.len() <= 400 {
+            out.extend((0..self.text.len()).map(|at| {
+                let mut less = self.clone();
+                less.text.remove(at);
+                less
+            }));
+        }
+        out
+    }
+}
+
+/// An asset's line without its cell for the asset of line `gone`.
+fn without(line: &[u8], gone: usize) -> Vec<u8> {
+    let (cells, end) = line.strip_suffix(b"\n").map_or((line, &b""[..]), |cells| (cells, b"\n"));
+    let fields: Vec<&[u8]> = cells.split(|&b| b == b'\t').enumerate().filter(|(k, _)| *k != gone).map(|(_, field)| field).collect();
+    [&fields.join(&b'\t')[..], end].concat()
+}

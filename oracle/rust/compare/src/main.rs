@@ -1,0 +1,125 @@
+//! `compare SEED COUNT [FIRST]`: hands so many cases, each made from the seed and its own number, to our library and to the Rust, and says where they
+//! disagree. The status is 1 where they do.
+use compare::case::{shrunk, Case, Desk};
+use compare::hcaa::Hcaa;
+use compare::hrp::Hrp;
+use compare::listing::Listing;
+use compare::random::Random;
+use compare::steps::{Leaves, Merge, Roots};
+use std::collections::BTreeMap;
+use std::process::ExitCode;
+use std::sync::atomic::{AtomicU64, Ordering};
+
+/// The case that is being played, for the words of a panic or a crash.
+static AT: AtomicU64 = AtomicU64::new(0);
+
+extern "C" {
+    fn signal(number: i32, handler: extern "C" fn(i32)) -> usize;
+}
+
+/// A library that is killed by a signal (illegal instruction, trap, abort, bus, arithmetic, segment) is not left without a word.
+extern "C" fn crashed(number: i32) {
+    eprintln!("case {}: signal {number}", AT.load(Ordering::Relaxed));
+    std::process::exit(3);
+}
+
+fn catch_crashes() {
+    for number in [4, 5, 6, 7, 8, 11] {
+        // The handler only says where it was, and ends the run.
+        unsafe { signal(number, crashed) };
+    }
+}
+
+/// How many disagreeing cases are made smaller.
+const SHRINKS: usize = 40;
+
+struct Smallest {
+    size: usize,
+    text: String,
+}
+
+#[derive(Default)]
+struct Tally {
+    /// How many cases of each call ended with each number.
+    ends: BTreeMap<(&'static str, u8), u64>,
+    listed: u64,
+    disagree: u64,
+    shrinks: usize,
+    smallest: Option<Smallest>,
+}
+
+impl Tally {
+    fn play<C: Case>(&mut self, seed: u64, at: u64, rng: &mut Random, desk: &mut Desk) {
+        let case = C::make(rng);
+        let junk = rng.bits();
+        let judged = case.judge(desk, &mut Random::new(junk));
+        *self.ends.entry((C::NAME, judged.number)).or_default() += 1;
+        self.listed += judged.listed as u64;
+        if judged.verdict.is_err() {
+            self.disagree += 1;
+            self.keep(case, desk, seed, at, junk);
+        }
+    }
+
+    /// The smallest that was found, made smaller still.
+    fn keep<C: Case>(&mut self, case: C, desk: &mut Desk, seed: u64, at: u64, junk: u64) {
+        self.shrinks += 1;
+        let case = if self.shrinks <= SHRINKS { shrunk(case, desk, junk) } else { case };
+        let size = case.size();
+        if self.smallest.as_ref().is_some_and(|s| s.size <= size) {
+            return;
+        }
+        if let Err(why) = case.judge(desk, &mut Random::new(junk)).verdict {
+            let text = format!("{}: {why}\n{}(made smaller from case {at} of seed {seed})\n", C::NAME, case.show());
+            self.smallest = Some(Smallest { size, text });
+        }
+    }
+
+    fn tell(&self, count: u64) {
+        for name in [Hrp::NAME, Hcaa::NAME, Merge::NAME, Leaves::NAME, Roots::NAME, Listing::NAME] {
+            let ends: Vec<(u8, u64)> = self.ends.iter().filter(|((call, _), _)| *call == name).map(|(&(_, end), &n)| (end, n)).collect();
+            let refused: String = ends.iter().filter(|(end, _)| *end > 0).map(|(end, n)| format!(" {end}:{n}")).collect();
+            let done: u64 = ends.iter().filter(|(end, _)| *end == 0).map(|(_, n)| n).sum();
+            println!("{name}: {done} accepted{}{refused}", if refused.is_empty() { "" } else { ", refused" });
+        }
+        if let Some(smallest) = &self.smallest {
+            print!("the smallest that disagrees\n{}", smallest.text);
+        }
+        println!("{} where the Rust differs as docs/DIFFERENCES.md lists (a signalling NaN lent to the merge step)", self.listed);
+        println!("{count} cases, {} disagree", self.disagree);
+    }
+}
+
+/// Cases that do not depend on those before them.
+fn start(seed: u64, at: u64) -> Random {
+    let mut rng = Random::new(seed.wrapping_add(at.wrapping_mul(0xd134_2543_de82_ef95)));
+    Random::new(rng.bits())
+}
+
+fn main() -> ExitCode {
+    let words: Vec<u64> = std::env::args().skip(1).map(|w| w.parse().expect("a number")).collect();
+    let (&[seed, count] | &[seed, count, _]) = &words[..] else { panic!("compare SEED COUNT [FIRST]") };
+    let first = words.get(2).copied().unwrap_or(0);
+    let usual = std::panic::take_hook();
+    std::panic::set_hook(Box::new(move |what| {
+        eprintln!("case {} of seed {seed}:", AT.load(Ordering::Relaxed));
+        usual(what);
+    }));
+    catch_crashes();
+    let mut tally = Tally::default();
+    let mut desk = Desk::default();
+    for at in first..first + count {
+        AT.store(at, Ordering::Relaxed);
+        let mut rng = start(seed, at);
+        match rng.below(100) {
+            0..=24 => tally.play::<Hrp>(seed, at, &mut rng, &mut desk),
+            25..=57 => tally.play::<Hcaa>(seed, at, &mut rng, &mut desk),
+            58..=69 => tally.play::<Merge>(seed, at, &mut rng, &mut desk),
+            70..=77 => tally.play::<Leaves>(seed, at, &mut rng, &mut desk),
+            78..=81 => tally.play::<Roots>(seed, at, &mut rng, &mut desk),
+            _ => tally.play::<Listing>(seed, at, &mut rng, &mut desk),
+        }
+    }
+    tally.tell(count);
+    ExitCode::from((tally.disagree != 0) as u8)
+}
