@@ -100,6 +100,12 @@ use Rattle.job.proofs.text_to_listing as job·text-to-listing
 use Rattle.millionths.proofs.millionths as millionths·millionths
 use Rattle.millionths.proofs.part as millionths·part
 use Rattle.millionths.proofs.weights_in_millionths as millionths·weights-in-millionths
+use Rattle.capi.proofs.rovignesc_sqrt as capi·rovignesc-sqrt
+use Rattle.capi.proofs.rovignesc_hrp as capi·rovignesc-hrp
+use Rattle.capi.proofs.rovignesc_hcaa as capi·rovignesc-hcaa
+use Rattle.capi.proofs.rovignesc_linkage_children as capi·rovignesc-linkage-children
+use Rattle.capi.proofs.rovignesc_quasi_diagonalization as capi·rovignesc-quasi-diagonalization
+use Rattle.capi.proofs.rovignesc_listing as capi·rovignesc-listing
 
 -- ---- the law: what is the same as a third is the same
 
@@ -467,3 +473,24 @@ job-bytes κs a r r′ e e′ p q = (sole p q, refl)
 
 pub job-text-to-listing : Sole job·text-to-listing.ended job·text-to-listing.Reads.Post
 job-text-to-listing κs a r r′ e e′ p q = (sole (p .0) (q .0), λ i. (tt, (sole (p .1 .0) (q .1 .0) i, tt)))
+
+-- ---- capi: the C interface
+
+pub capi-rovignesc-sqrt : Sole capi·rovignesc-sqrt.ended capi·rovignesc-sqrt.Reads.Post
+capi-rovignesc-sqrt κs a r r′ e e′ p q = (sole p q, refl)
+
+pub capi-rovignesc-hrp : Sole capi·rovignesc-hrp.ended capi·rovignesc-hrp.Reads.Post
+capi-rovignesc-hrp κs a r r′ e e′ p q = (sole (p .answer) (q .answer), kept5 (kept5 (kept5 (λ i. (tt, six-laid (p .buffers) (q .buffers) i)))))
+
+pub capi-rovignesc-hcaa : Sole capi·rovignesc-hcaa.ended capi·rovignesc-hcaa.Reads.Post
+capi-rovignesc-hcaa κs a r r′ e e′ p q =
+    (sole (p .answer) (q .answer), kept5 (kept5 (kept5 (kept5 (λ i. (tt, (tt, (sole (p .buffers .rows-are) (q .buffers .rows-are) i, (sole (p .buffers .order-is) (q .buffers .order-is) i, (sole (p .buffers .weights-are) (q .buffers .weights-are) i, (sole (p .buffers .scratch-is) (q .buffers .scratch-is) i, (sole (p .asked-is) (q .asked-is) i, tt))))))))))))
+
+pub capi-rovignesc-linkage-children : Sole capi·rovignesc-linkage-children.ended capi·rovignesc-linkage-children.Reads.Post
+capi-rovignesc-linkage-children κs a r r′ e e′ p q = (sole (p .answer) (q .answer), λ i. (tt, (tt, (tt, (tt, (sole (p .rows-are) (q .rows-are) i, tt))))))
+
+pub capi-rovignesc-quasi-diagonalization : Sole capi·rovignesc-quasi-diagonalization.ended capi·rovignesc-quasi-diagonalization.Reads.Post
+capi-rovignesc-quasi-diagonalization κs a r r′ e e′ p q = (sole (p .answer) (q .answer), λ i. (tt, (tt, (tt, (sole (p .order-is) (q .order-is) i, (sole (p .leaves-are) (q .leaves-are) i, tt))))))
+
+pub capi-rovignesc-listing : Sole capi·rovignesc-listing.ended capi·rovignesc-listing.Reads.Post
+capi-rovignesc-listing κs a r r′ e e′ p q = (sole (p .answer) (q .answer), λ i. (tt, (sole (p .listing-is) (q .listing-is) i, (sole (p .bytes-are) (q .bytes-are) i, tt))))
