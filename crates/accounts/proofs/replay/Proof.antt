@@ -7,16 +7,10 @@ use Rattle.accounts.proofs.replay.Statement.{statement}
 use Rattle.accounts.proofs.replay.Tie as tie
 
 abbrev Inv-loop : tie.InvT-loop
-Inv-loop text rows₀ order₀ shares₀ correlations₀ distances₀ scratch₀ told₀ at₀ end₀ rows order shares correlations distances scratch told at end = (length told ≡ length told₀)
-    × (length rows ≡ length rows₀)
-    × (length order ≡ length order₀)
-    × (length shares ≡ length shares₀)
-    × (length correlations ≡ length correlations₀)
-    × (length distances ≡ length distances₀)
-    × (length scratch ≡ length scratch₀)
+Inv-loop text told₀ at₀ end₀ b₀ told at end b = length told ≡ length told₀
 
 abbrev μ-loop : tie.MeasureT-loop
-μ-loop text rows₀ order₀ shares₀ correlations₀ distances₀ scratch₀ told₀ at₀ end₀ rows order shares correlations distances scratch told at end = length text - at
+μ-loop text told₀ at₀ end₀ b₀ told at end b = length text - at
 
 loop-holds : tie.Need-loop-holds Inv-loop μ-loop
 loop-holds c = search needs
@@ -27,50 +21,14 @@ next-requires c κs = search needs
 same-length : tie.Need-same-length Inv-loop μ-loop
 same-length c = search needs
 
-same-length-2 : tie.Need-same-length-2 Inv-loop μ-loop
-same-length-2 c = search needs
-
-same-length-3 : tie.Need-same-length-3 Inv-loop μ-loop
-same-length-3 c = search needs
-
-same-length-4 : tie.Need-same-length-4 Inv-loop μ-loop
-same-length-4 c = search needs
-
-same-length-5 : tie.Need-same-length-5 Inv-loop μ-loop
-same-length-5 c = search needs
-
-same-length-6 : tie.Need-same-length-6 Inv-loop μ-loop
-same-length-6 c = search needs
-
-same-length-7 : tie.Need-same-length-7 Inv-loop μ-loop
-same-length-7 c = search needs
-
 returns : tie.Need-returns Inv-loop μ-loop
 returns c = search needs
 
 call-requires : tie.Need-call-requires Inv-loop μ-loop
 call-requires c κs = search needs
 
-same-length-8 : tie.Need-same-length-8 Inv-loop μ-loop
-same-length-8 c = search needs
-
-same-length-9 : tie.Need-same-length-9 Inv-loop μ-loop
-same-length-9 c = search needs
-
-same-length-10 : tie.Need-same-length-10 Inv-loop μ-loop
-same-length-10 c = search needs
-
-same-length-11 : tie.Need-same-length-11 Inv-loop μ-loop
-same-length-11 c = search needs
-
-same-length-12 : tie.Need-same-length-12 Inv-loop μ-loop
-same-length-12 c = search needs
-
-same-length-13 : tie.Need-same-length-13 Inv-loop μ-loop
-same-length-13 c = search needs
-
-same-length-14 : tie.Need-same-length-14 Inv-loop μ-loop
-same-length-14 c = search needs
+same-length-2 : tie.Need-same-length-2 Inv-loop μ-loop
+same-length-2 c = search needs
 
 returns-2 : tie.Need-returns-2 Inv-loop μ-loop
 returns-2 c = search needs
@@ -81,26 +39,8 @@ loop-less c = search needs
 loop-again : tie.Need-loop-again Inv-loop μ-loop
 loop-again c = search needs
 
-same-length-15 : tie.Need-same-length-15 Inv-loop μ-loop
-same-length-15 c = search needs
-
-same-length-16 : tie.Need-same-length-16 Inv-loop μ-loop
-same-length-16 c = search needs
-
-same-length-17 : tie.Need-same-length-17 Inv-loop μ-loop
-same-length-17 c = search needs
-
-same-length-18 : tie.Need-same-length-18 Inv-loop μ-loop
-same-length-18 c = search needs
-
-same-length-19 : tie.Need-same-length-19 Inv-loop μ-loop
-same-length-19 c = search needs
-
-same-length-20 : tie.Need-same-length-20 Inv-loop μ-loop
-same-length-20 c = search needs
-
-same-length-21 : tie.Need-same-length-21 Inv-loop μ-loop
-same-length-21 c = search needs
+same-length-3 : tie.Need-same-length-3 Inv-loop μ-loop
+same-length-3 c = search needs
 
 returns-3 : tie.Need-returns-3 Inv-loop μ-loop
 returns-3 c = search needs
@@ -114,29 +54,11 @@ replay-spec =
     loop-holds
     next-requires
     same-length
-    same-length-2
-    same-length-3
-    same-length-4
-    same-length-5
-    same-length-6
-    same-length-7
     returns
     call-requires
-    same-length-8
-    same-length-9
-    same-length-10
-    same-length-11
-    same-length-12
-    same-length-13
-    same-length-14
+    same-length-2
     returns-2
     loop-less
     loop-again
-    same-length-15
-    same-length-16
-    same-length-17
-    same-length-18
-    same-length-19
-    same-length-20
-    same-length-21
+    same-length-3
     returns-3)

@@ -503,4 +503,5 @@ pub fn all(out: &mut Record, rng: &mut Random) {
     clusters(out, rng);
     bisections(out, rng);
     accounts(out, rng);
+    crate::hcaa_cases::all(out, rng);
 }

@@ -1,4 +1,4 @@
-//! Writes the calls and the source's answers that a program is run on: `record replay|accounts|hcaa CALLS ANSWERS [SEED]`.
+//! Writes the calls and the source's answers that a program is run on: `record replay|accounts CALLS ANSWERS [SEED]`.
 //! Without a seed they are those of the repository.
 mod account_calls;
 mod account_cases;
@@ -18,11 +18,6 @@ fn main() -> std::io::Result<()> {
     match names[0].as_str() {
         "replay" => cases::all(&mut out, &mut rng),
         "accounts" => account_cases::all(&mut out, &mut rng),
-        // those of accounts, then HCAA's
-        "hcaa" => {
-            account_cases::all(&mut out, &mut rng);
-            hcaa_cases::all(&mut out, &mut rng);
-        }
         other => panic!("no program {other}"),
     }
     std::fs::write(&names[1], &out.calls)?;
