@@ -1,4 +1,5 @@
 pub mod Laws
+pub mod Near
 pub mod Scan
 pub mod Rows
 pub mod Judged

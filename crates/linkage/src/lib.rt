@@ -108,11 +108,12 @@ impl Linkage {
     }
 }
 
-// Never for NaN or two infinities, whose difference is NaN.
+// Never for NaN or two infinities, whose difference is NaN. Two comparisons are quicker than the absolute value.
 fn is_near(x: f64, y: f64) -> bool
     ensures { λ r. ⌜ r ≡ near x y ⌝ }
 {
-    arithmetic::abs(x - y) <= EPS
+    let z = x - y;
+    -EPS <= z && z <= EPS
 }
 
 // (p, q) comes before (r, s).
@@ -124,21 +125,6 @@ fn comes_before(p: Node, q: Node, r: Node, s: Node) -> bool
     }
     if p.0 == r.0 {
         return q.0 < s.0;
-    }
-    false
-}
-
-fn is_better(best: Best, x: f64, lo: Node, hi: Node) -> bool
-    ensures { λ r. ⌜ r ≡ better best x (lo .0) (hi .0) ⌝ }
-{
-    if !best.found {
-        return true;
-    }
-    if x + EPS < best.dist {
-        return true;
-    }
-    if is_near(x, best.dist) {
-        return comes_before(lo, hi, best.low, best.high);
     }
     false
 }
@@ -155,20 +141,34 @@ fn larger(p: Node, q: Node) -> Node
     if q.0 < p.0 { p } else { q }
 }
 
+// A pair of ids p and q at distance x replaces the best. The ids are put in order for a tie alone.
+fn is_better(best: Best, x: f64, p: Node, q: Node) -> bool
+    ensures { λ r. ⌜ r ≡ better best x (lesser (p .0) (q .0)) (greater (p .0) (q .0)) ⌝ }
+{
+    if !best.found {
+        return true;
+    }
+    if x + EPS < best.dist {
+        return true;
+    }
+    if is_near(x, best.dist) {
+        return comes_before(smaller(p, q), larger(p, q), best.low, best.high);
+    }
+    false
+}
+
 // The best after the pair of slots a, b at distance x, with ids p and q.
 fn offered(a: Slot, b: Slot, x: f64, p: Node, q: Node, best: Best) -> Best
     ensures { λ r. ⌜ r ≡ offer (a .0) (b .0) x (p .0) (q .0) best ⌝ }
 {
-    let lo = smaller(p, q);
-    let hi = larger(p, q);
-    if is_better(best, x, lo, hi) {
+    if is_better(best, x, p, q) {
         return Best {
             found: true,
             a: a,
             b: b,
             dist: x,
-            low: lo,
-            high: hi,
+            low: smaller(p, q),
+            high: larger(p, q),
         };
     }
     best

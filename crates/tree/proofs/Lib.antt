@@ -1,4 +1,5 @@
 pub mod Rows
+pub mod Counted
 pub mod Tree
 pub mod Walk
 pub mod Order

@@ -5,9 +5,14 @@ use mathlib.Core.List.{List}
 use Prim.Native.Nat.{ℕ, _-_, _*_, _≤_, _<_}
 use lib.ListN.{length, getD}
 use lib.Ieee.{Float}
+use Rattle.lent.specs.Count.{count}
 use Rattle.lent.specs.Grid.{over}
 use Rattle.tree.specs.Rows.{isTree}
 use Rattle.tree.specs.Tree.{leavesOf}
+
+-- entry k is how often k stands in the list
+pub record Tallied (list t : List ℕ) : Type 0 where
+  pub each : (k : ℕ) → k < 128 → count k list ≡ getD t k 0
 
 -- rows of a tree of n assets, and a node of it
 pub record OnTree (rows : List ℕ) (n v : ℕ) : Type 0 where

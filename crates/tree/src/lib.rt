@@ -12,7 +12,7 @@ ghost use Rattle.lent.specs.Count.{count};
 ghost use Rattle.lent.specs.Grid.{cell, grid, over};
 ghost use Rattle.tree.specs.Rows.{below, once, isTree, isOrder};
 ghost use Rattle.tree.specs.Order.{orderOutcome, orderAnswer, orderOf, seriatedCell, seriateOutcome, seriateAnswer, seriated};
-ghost use Rattle.tree.specs.Walk.{Ready, Written, Seriable};
+ghost use Rattle.tree.specs.Walk.{Tallied, Ready, Written, Seriable};
 
 // A node's id: an asset's number below n, and n + k for row k.
 pub struct Node(pub usize);
@@ -35,8 +35,40 @@ fn occurs(list: &[usize], x: usize) -> usize
     c
 }
 
-// Each number below m stands in the list once.
-fn each_once(list: &[usize], m: usize) -> bool
+// How often each number below 128 stands in the list, in one pass.
+fn tally(list: &[usize]) -> [usize; 128]
+    ensures { λ t. ⌜ Tallied (now (list .entry)) t ⌝ }
+{
+    let mut t = [0usize; 128];
+    let mut i = 0;
+    while i < list.len() {
+        let x = list[i];
+        if x < 128 {
+            t[x] += 1;
+        }
+        i += 1;
+    }
+    t
+}
+
+// As many numbers as a tree of 64 assets has ids are looked up in their tally.
+fn each_tallied_once(list: &[usize], m: usize) -> bool
+    requires { ⌜ m ≤ 128 ⌝ }
+    ensures { λ r. ⌜ r ≡ once (now (list .entry)) m ⌝ }
+{
+    let t = tally(list);
+    let mut k = m;
+    while k > 0 {
+        k -= 1;
+        if t[k] != 1 {
+            return false;
+        }
+    }
+    true
+}
+
+// Of more numbers, each is looked for.
+fn each_found_once(list: &[usize], m: usize) -> bool
     ensures { λ r. ⌜ r ≡ once (now (list .entry)) m ⌝ }
 {
     let mut k = m;
@@ -47,6 +79,16 @@ fn each_once(list: &[usize], m: usize) -> bool
         }
     }
     true
+}
+
+// Each number below m stands in the list once.
+fn each_once(list: &[usize], m: usize) -> bool
+    ensures { λ r. ⌜ r ≡ once (now (list .entry)) m ⌝ }
+{
+    if m <= 128 {
+        return each_tallied_once(list, m);
+    }
+    each_found_once(list, m)
 }
 
 // There are n − 1 rows. By a division: the product could overflow.

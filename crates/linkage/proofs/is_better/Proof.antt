@@ -17,15 +17,22 @@ returns-2 c = simp (c .before .before .if1 .left, c .if2 .taken)
 is-near-requires : tie.Need-is-near-requires
 is-near-requires c κs = search needs
 
+smaller-requires : tie.Need-smaller-requires
+smaller-requires c κs = search needs
+
+larger-requires : tie.Need-larger-requires
+larger-requires c κs = search needs
+
 comes-before-requires : tie.Need-comes-before-requires
 comes-before-requires c κs = search needs
 
 returns-3 : tie.Need-returns-3
 unfolding better
 returns-3 c =
-    let w = c .before .before in
-    let e : near _ _ ≡ true = sym (w .is-near .ensures) ∙ c .before .if3 .taken in
-    simp (w .before .before .before .if1 .left, w .before .if2 .left, e) (c .comes-before .ensures)
+    let t = c .before .before .before in
+    let w = t .before in
+    let e : near _ _ ≡ true = sym (w .is-near .ensures) ∙ t .if3 .taken in
+    simp (w .before .before .before .if1 .left, w .before .if2 .left, e, ← c .before .before .smaller .ensures, ← c .before .larger .ensures) (c .comes-before .ensures)
 
 returns-4 : tie.Need-returns-4
 unfolding better
@@ -37,4 +44,4 @@ returns-4 c =
 pub is-better-spec : {M : Type 1} → statement M
 is-better-spec =
     tie.close
-    (tie.spec returns returns-2 is-near-requires comes-before-requires returns-3 returns-4)
+    (tie.spec returns returns-2 is-near-requires smaller-requires larger-requires comes-before-requires returns-3 returns-4)

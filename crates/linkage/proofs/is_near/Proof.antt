@@ -1,15 +1,13 @@
 -- `linkage::is_near` meets its contract. Assumes nothing.
-use borrow.Author.Needs.{needs}
-use Rattle.linkage.specs.Merge.{near}
+use Rattle.linkage.proofs.Near.{near-is}
 use Rattle.linkage.proofs.is_near.Statement.{statement}
 use Rattle.linkage.proofs.is_near.Tie as tie
 
-abs-requires : tie.Need-abs-requires
-abs-requires c κs = search needs
-
 returns : tie.Need-returns
-unfolding near
-returns c = rw (c .abs .ensures)
+returns c = rw (near-is (c .before .args .x) (c .before .args .y), c .if1 .taken)
+
+returns-2 : tie.Need-returns-2
+returns-2 c = rw (near-is (c .before .args .x) (c .before .args .y), c .if1 .left)
 
 pub is-near-spec : {M : Type 1} → statement M
-is-near-spec = tie.close (tie.spec abs-requires returns)
+is-near-spec = tie.close (tie.spec returns returns-2)

@@ -1,11 +1,11 @@
--- `tree::each_once` meets its contract. The numbers below k decide. Assumes nothing.
+-- `tree::each_found_once` meets its contract. The numbers below k decide. Assumes nothing.
 use mathlib.Core.Path.{_≡_, sym, _∙_}
 use native.Mathlib.Omega.{arith}
 use borrow.Author.Needs.{needs}
 use Rattle.tree.specs.Rows.{once}
 use Rattle.tree.proofs.Rows.{once-good, once-bad, once-end}
-use Rattle.tree.proofs.each_once.Statement.{statement}
-use Rattle.tree.proofs.each_once.Tie as tie
+use Rattle.tree.proofs.each_found_once.Statement.{statement}
+use Rattle.tree.proofs.each_found_once.Tie as tie
 
 abbrev Inv-loop : tie.InvT-loop
 Inv-loop list m k₀ k = once list m ≡ once list k
@@ -42,8 +42,8 @@ returns-2 c =
     let s = c .before .before .before in
     sym (c .before .loop .inv ∙ once-end (s .args .list .now) (c .before .loop .k) (c .loop-test .left))
 
-pub each-once-spec : {M : Type 1} → statement M
-each-once-spec =
+pub each-found-once-spec : {M : Type 1} → statement M
+each-found-once-spec =
     tie.close
     (tie.spec
     Inv-loop
