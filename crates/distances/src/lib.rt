@@ -4,10 +4,10 @@ use lent::Answer;
 use refusal::Outcome;
 ghost use mathlib.Core.Path.{_≡_};
 ghost use Prim.Native.Nat.{_+_, _*_, _<_, _≤_};
-ghost use lib.ListN.{length, getD, set};
-ghost use lib.Ieee.{nan};
-ghost use Rattle.lent.specs.Grid.{cell, tab, grid, over};
-ghost use Rattle.distances.specs.Distances.{distanceOf, distanceAnswer, distances, offDiagonal, between, betweenCell, betweens};
+ghost use lib.ListN.{length, set};
+ghost use Rattle.lent.specs.Grid.{cell, grid, over};
+ghost use Rattle.distances.specs.Distances.{distanceOf, distanceCell, distanceAnswer, distances, offDiagonal, betweenCell, betweens};
+ghost use Rattle.distances.specs.Held.{Held, Picked, sumOf};
 
 // Which allocator's distance.
 pub enum Measure {
@@ -41,15 +41,49 @@ fn distance(of: Measure, corr: f64) -> f64
     }
 }
 
-// Each cell is made from the one in its place, so one loop goes over all.
-fn fill_distances(of: Measure, corr: &[f64], out: &mut [f64])
-    requires { ⌜ length (now corr) ≤ length (now out) ⌝ }
-    ensures { λ _. ⌜ now (out .exit) ≡ over (tab (length (now (corr .entry))) (λ k. distanceOf of (getD (now (corr .entry)) k nan))) (now (out .entry)) ⌝ }
+// Cell (i, j), after the rows above it: where the cell across the diagonal is the same, so is its distance, and a root is spared.
+fn distance_cell(of: Measure, corr: &[f64], n: usize, i: usize, j: usize, done: &[f64]) -> f64
+    requires { ⌜ length (now corr) ≡ n * n ⌝ }
+    requires { ⌜ i < n ⌝ }
+    requires { ⌜ j < n ⌝ }
+    requires { ⌜ n * n ≤ length (now done) ⌝ }
+    requires { ⌜ (j < i → cell (now done) n j i ≡ distanceCell of (now corr) n j i) ⌝ }
+    ensures { λ r. ⌜ r ≡ distanceCell of (now (corr .entry)) n i j ⌝ }
 {
-    let mut k = 0;
-    while k < corr.len() {
-        out[k] = arithmetic::settled(distance(of, corr[k]));
-        k += 1;
+    let x = at(corr, n, i, j);
+    if j < i {
+        if arithmetic::to_bits(x) == arithmetic::to_bits(at(corr, n, j, i)) {
+            return at(done, n, j, i);
+        }
+    }
+    distance(of, x)
+}
+
+// Row i, after the rows above it.
+fn distance_row(of: Measure, corr: &[f64], n: usize, i: usize, out: &mut [f64])
+    requires { ⌜ length (now corr) ≡ n * n ⌝ }
+    requires { ⌜ i < n ⌝ }
+    requires { ⌜ n * n ≤ length (now out) ⌝ }
+    requires { ⌜ over (grid i n (distanceCell of (now corr) n)) (now out) ≡ now out ⌝ }
+    ensures { λ _. ⌜ now (out .exit) ≡ over (grid (i + 1) n (distanceCell of (now (corr .entry)) n)) (now (out .entry)) ⌝ }
+{
+    let mut j = 0;
+    while j < n {
+        let v = arithmetic::settled(distance_cell(of, corr, n, i, j, &out[..]));
+        put(out, n, i, j, v);
+        j += 1;
+    }
+}
+
+fn fill_distances(of: Measure, corr: &[f64], n: usize, out: &mut [f64])
+    requires { ⌜ length (now corr) ≡ n * n ⌝ }
+    requires { ⌜ n * n ≤ length (now out) ⌝ }
+    ensures { λ _. ⌜ now (out .exit) ≡ over (grid n n (distanceCell of (now (corr .entry)) n)) (now (out .entry)) ⌝ }
+{
+    let mut i = 0;
+    while i < n {
+        distance_row(of, corr, n, i, out);
+        i += 1;
     }
 }
 
@@ -68,45 +102,62 @@ pub fn corr_to_distances(
     let Outcome::Done = said else {
         return lent::answered(said, columns, columns);
     };
-    fill_distances(of, corr, out);
+    fill_distances(of, corr, columns, out);
     lent::answered(said, columns, columns)
 }
 
-// Cell (k, i), the diagonal taken as 0.
+// Cell (k, i), the diagonal taken as 0. It is read first: a read that is always made can be vectorized.
 fn off_diagonal(d: &[f64], n: usize, k: usize, i: usize) -> f64
     requires { ⌜ length (now d) ≡ n * n ⌝ }
     requires { ⌜ k < n ⌝ }
     requires { ⌜ i < n ⌝ }
     ensures { λ r. ⌜ r ≡ offDiagonal (now (d .entry)) n k i ⌝ }
 {
-    if k == i { 0.0 } else { at(d, n, k, i) }
+    let x = at(d, n, k, i);
+    if k == i { 0.0 } else { x }
 }
 
-// The distance of columns i and j.
-fn columns_apart(d: &[f64], n: usize, i: usize, j: usize) -> f64
+// Row k's terms are added to the sums of column i and each column after it, which so go side by side.
+fn add_row(d: &[f64], n: usize, i: usize, k: usize, sums: &mut [f64; 64])
     requires { ⌜ length (now d) ≡ n * n ⌝ }
+    requires { ⌜ n ≤ 64 ⌝ }
     requires { ⌜ i < n ⌝ }
-    requires { ⌜ j < n ⌝ }
-    ensures { λ r. ⌜ r ≡ between (now (d .entry)) n i j ⌝ }
+    requires { ⌜ k < n ⌝ }
+    requires { ⌜ Held (now sums) (i + 1) n (sumOf (now d) n i k) ⌝ }
+    ensures { λ _. ⌜ Held (now (sums .exit)) (i + 1) n (sumOf (now (d .entry)) n i (k + 1)) ⌝ }
 {
-    let mut s = 0.0;
+    let x = off_diagonal(d, n, k, i);
+    let mut j = i + 1;
+    while j < n {
+        let y = x - off_diagonal(d, n, k, j);
+        sums[j] = sums[j] + y * y;
+        j += 1;
+    }
+}
+
+// The sums of column i and each column after it.
+fn sums_of(d: &[f64], n: usize, i: usize) -> [f64; 64]
+    requires { ⌜ length (now d) ≡ n * n ⌝ }
+    requires { ⌜ n ≤ 64 ⌝ }
+    requires { ⌜ i < n ⌝ }
+    ensures { λ r. ⌜ Held r (i + 1) n (sumOf (now (d .entry)) n i n) ⌝ }
+{
+    let mut sums = [0.0; 64];
     let mut k = 0;
     while k < n {
-        let x = off_diagonal(d, n, k, i) - off_diagonal(d, n, k, j);
-        s = s + x * x;
+        add_row(d, n, i, k, &mut sums);
         k += 1;
     }
-    arithmetic::sqrt(s)
+    sums
 }
 
 // Cell (i, j), after the rows above it: left of the diagonal it is copied from across it, so that each pair is worked out once.
-fn between_cell(d: &[f64], n: usize, i: usize, j: usize, out: &[f64]) -> f64
-    requires { ⌜ length (now d) ≡ n * n ⌝ }
+fn between_cell(sums: &[f64; 64], n: usize, i: usize, j: usize, out: &[f64]) -> f64
+    requires { ⌜ n ≤ 64 ⌝ }
     requires { ⌜ i < n ⌝ }
     requires { ⌜ j < n ⌝ }
     requires { ⌜ n * n ≤ length (now out) ⌝ }
-    requires { ⌜ (j < i → cell (now out) n j i ≡ betweenCell (now d) n j i) ⌝ }
-    ensures { λ r. ⌜ r ≡ betweenCell (now (d .entry)) n i j ⌝ }
+    ensures { λ r. ⌜ Picked r (now (sums .entry)) (now (out .entry)) n i j ⌝ }
 {
     if j < i {
         return at(out, n, j, i);
@@ -114,21 +165,23 @@ fn between_cell(d: &[f64], n: usize, i: usize, j: usize, out: &[f64]) -> f64
     if i == j {
         0.0
     } else {
-        columns_apart(d, n, i, j)
+        arithmetic::sqrt(sums[j])
     }
 }
 
 // Row i, after the rows above it.
 fn fill_row(d: &[f64], n: usize, i: usize, out: &mut [f64])
     requires { ⌜ length (now d) ≡ n * n ⌝ }
+    requires { ⌜ n ≤ 64 ⌝ }
     requires { ⌜ i < n ⌝ }
     requires { ⌜ n * n ≤ length (now out) ⌝ }
     requires { ⌜ over (grid i n (betweenCell (now d) n)) (now out) ≡ now out ⌝ }
     ensures { λ _. ⌜ now (out .exit) ≡ over (grid (i + 1) n (betweenCell (now (d .entry)) n)) (now (out .entry)) ⌝ }
 {
+    let sums = sums_of(d, n, i);
     let mut j = 0;
     while j < n {
-        let v = arithmetic::settled(between_cell(d, n, i, j, &out[..]));
+        let v = arithmetic::settled(between_cell(&sums, n, i, j, &out[..]));
         put(out, n, i, j, v);
         j += 1;
     }
@@ -136,6 +189,7 @@ fn fill_row(d: &[f64], n: usize, i: usize, out: &mut [f64])
 
 fn fill_betweens(d: &[f64], n: usize, out: &mut [f64])
     requires { ⌜ length (now d) ≡ n * n ⌝ }
+    requires { ⌜ n ≤ 64 ⌝ }
     requires { ⌜ n * n ≤ length (now out) ⌝ }
     ensures { λ _. ⌜ now (out .exit) ≡ over (grid n n (betweenCell (now (d .entry)) n)) (now (out .entry)) ⌝ }
 {

@@ -6,7 +6,6 @@ use Rattle.arithmetic.specs.Constants.{pz}
 use Rattle.lent.specs.Grid.{grid}
 use Rattle.lent.proofs.Sizes.{squared-done, laid-done, laid-refused}
 use Rattle.distances.specs.Distances.{distanceOutcome, distanceAnswer, distances, distanceCell}
-use Rattle.distances.proofs.Laws.{distances-grid}
 use borrow.Author.Needs.{needs}
 use Rattle.distances.proofs.corr_to_distances.Statement.{statement}
 use Rattle.distances.proofs.corr_to_distances.Tie as tie
@@ -38,7 +37,7 @@ returns c =
 fill-distances-requires : tie.Need-fill-distances-requires
 fill-distances-requires c κs =
     let q = squared-done _ _ _ _ (sym (c .before .before .before .before .before .before .before .squared .ensures) ∙ c .before .enum-told .given .1) in
-    omega (arith, q .cells, q .roomy)
+    (q .cells, omega (arith, q .roomy))
 
 answered-requires-2 : tie.Need-answered-requires-2
 answered-requires-2 c κs = search needs
@@ -51,9 +50,8 @@ unfolding distanceAnswer distances distanceOutcome
 returns-2 c =
     let a = c .before .before .before .before .before .before .before .before .before .before .before .before .before .before .args in
     let e = sym (c .before .before .before .before .before .before .before .before .before .before .before .squared .ensures) ∙ c .before .before .before .before .before .enum-told .given .1 in
-    let g = distances-grid (a .of) (a .corr .now) (a .columns) (squared-done _ _ _ _ e .cells) in
     let l = laid-done pz _ (length (a .out .now)) (grid (a .columns) (a .columns) (distanceCell (a .of) (a .corr .now) (a .columns))) e in
-    (rw (c .answered2 .ensures, c .before .before .before .before .before .before .before .before .before .before .before .squared .ensures), rw (c .before .before .before .fill-distances .ensures, c .before .before .before .before .before .before .before .before .before .clear .ensures, g) l)
+    (rw (c .answered2 .ensures, c .before .before .before .before .before .before .before .before .before .before .before .squared .ensures), rw (c .before .before .before .fill-distances .ensures, c .before .before .before .before .before .before .before .before .before .clear .ensures) l)
 
 pub corr-to-distances-spec : {M : Type 1} → statement M
 corr-to-distances-spec =

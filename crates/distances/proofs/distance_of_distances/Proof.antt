@@ -37,7 +37,7 @@ returns c =
 fill-betweens-requires : tie.Need-fill-betweens-requires
 fill-betweens-requires c κs =
     let q = squared-done _ _ _ _ (sym (c .before .before .before .before .before .before .before .squared .ensures) ∙ c .before .enum-told .given .1) in
-    (q .cells, omega (arith, q .roomy))
+    (q .cells, (q .wide, omega (arith, q .roomy)))
 
 answered-requires-2 : tie.Need-answered-requires-2
 answered-requires-2 c κs = search needs

@@ -3,7 +3,7 @@ use Prim.Native.Nat.{_*_, _-_, _≤_}
 use mathlib.Core.Path.{_≡_}
 use lib.ListN.{length}
 use Rattle.lent.specs.Grid.{grid, over}
-use Rattle.lent.proofs.Fill.{filling, rows-step}
+use Rattle.lent.proofs.Fill.{filling, rows-keep, rows-step}
 use Rattle.distances.specs.Distances.{betweenCell}
 use Rattle.distances.proofs.fill_betweens.Statement.{statement}
 use Rattle.distances.proofs.fill_betweens.Tie as tie
@@ -19,7 +19,10 @@ loop-holds : tie.Need-loop-holds Inv-loop μ-loop
 loop-holds c = search filling
 
 fill-row-requires : tie.Need-fill-row-requires Inv-loop μ-loop
-fill-row-requires c κs = search filling
+fill-row-requires c κs =
+    let at = c .before .before in
+    let p = at .before .before .before .pre in
+    (p .0, (p .1 .0, (c .before .loop-test .taken, (at .loop .inv .1, rows-keep _ _ _ _ _ _ (at .loop .inv .3) (at .loop .inv .0) (p .1 .1)))))
 
 add-i : tie.Need-add-i Inv-loop μ-loop
 add-i c = search filling
@@ -29,7 +32,8 @@ loop-less c = search filling
 
 loop-again : tie.Need-loop-again Inv-loop μ-loop
 loop-again c =
-    (search filling, search filling, search filling, rows-step _ _ _ _ _ _ _ (c .before .before .fill-row .ensures) (c .before .before .before .before .before .loop .inv .3) (c .before .before .before .before .loop-test .taken) (c .before .before .before .before .before .before .before .before .pre .1))
+    let at = c .before .before .before .before .before in
+    (search filling, search filling, search filling, rows-step _ _ _ _ _ _ _ (c .before .before .fill-row .ensures) (at .loop .inv .3) (c .before .before .before .before .loop-test .taken) (at .before .before .before .pre .1 .1))
 
 same-length : tie.Need-same-length Inv-loop μ-loop
 same-length c = search filling

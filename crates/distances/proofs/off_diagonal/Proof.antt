@@ -14,7 +14,7 @@ returns c = rw (eq-eqb _ _ (c .if1 .taken))
 
 returns-2 : tie.Need-returns-2
 unfolding offDiagonal
-returns-2 c = rw (ne-eqb _ _ (c .before .if1 .left)) (c .at .ensures)
+returns-2 c = rw (ne-eqb _ _ (c .if1 .left)) (c .before .at .ensures)
 
 pub off-diagonal-spec : {M : Type 1} → statement M
 off-diagonal-spec = tie.close (tie.spec at-requires returns returns-2)
