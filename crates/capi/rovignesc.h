@@ -59,6 +59,11 @@ uint8_t rovignesc_hcaa(size_t assets,
                        double *scratch, size_t scratch_len,
                        size_t *asked, size_t asked_len);
 
+/* The covariance of the columns of a matrix of returns, columns * columns cells (else 11), each pair of columns once and copied across. Under two
+   rows is 1. */
+uint8_t rovignesc_covariance(const double *returns, size_t returns_len, size_t returns_rows, size_t returns_columns,
+                             double *covariance, size_t covariance_len);
+
 /* The merge step: the rows of the tree of a matrix of distances, two numbers each. */
 uint8_t rovignesc_linkage_children(const double *distances, size_t distances_len, size_t distances_rows, size_t distances_columns,
                                    const uint8_t *linkage, size_t linkage_len,

@@ -16,6 +16,7 @@ use Rattle.lent.specs.Lent.{most-assets, sizes, laid}
 use Rattle.lent.specs.declared.Shape.{Shape}
 use Rattle.lent.specs.declared.Shape.the-variants.{Absent, Of}
 use Rattle.inputs.specs.Inputs.{matrixLines}
+use Rattle.stats.specs.Covariance.{covarianceOutcome, covariances}
 use Rattle.tree.specs.Tree.{leavesOf}
 use Rattle.tree.specs.Order.{orderOutcome}
 use Rattle.linkage.specs.Names.{distanceNamed, linkageNamed}
@@ -119,6 +120,12 @@ pub record HcaaAnswer (j : hcaa.Job) (link name : List ℕ) (room : hierarchy.Ro
   pub answer : r ≡ numberIn (hcaaOutcome j link name room count)
   pub buffers : hierarchy.Laid (hcaaOutcome j link name room count) (hcaa.usedRule j) (j .distance) (j .linkage) (hcaa.usedCovariance j) (j .assets) room rows order weights scratch
   pub asked-is : asked ≡ askedLaid (hcaaOutcome j link name room count) count
+
+-- ---- the covariance of the columns of returns xs, and `room` cells: as the call behind
+
+pub record CovarianceAnswer (xs : List Float) (rows w room r : ℕ) (out : List Float) : Type 0 where
+  pub answer : r ≡ numberIn (covarianceOutcome xs rows w room)
+  pub cells-are : out ≡ covariances xs rows w room
 
 -- ---- the merge step: a matrix xs of distances, and rows for `room` numbers
 

@@ -21,7 +21,7 @@ ghost use Rattle.parity.specs.Parity.{roomFor, roomLines};
 ghost use Rattle.hrp.specs.Hrp.{job};
 ghost use Rattle.hierarchy.specs.Hierarchy as hierarchy;
 ghost use Rattle.hcaa.specs.Hcaa as hcaa;
-ghost use Rattle.capi.specs.Capi.{numberIn, isSet, shapeOf, distanceSays, linkageSays, distanceOf, linkageOf, HrpAnswer, clustersFor, askedLines, askedLaid, HcaaAnswer, mergeSizes, MergeAnswer, leafSizes, LeafAnswer, numberListed, byteLines, ListingAnswer};
+ghost use Rattle.capi.specs.Capi.{numberIn, isSet, shapeOf, distanceSays, linkageSays, distanceOf, linkageOf, HrpAnswer, clustersFor, askedLines, askedLaid, HcaaAnswer, CovarianceAnswer, mergeSizes, MergeAnswer, leafSizes, LeafAnswer, numberListed, byteLines, ListingAnswer};
 
 // The refusal's number, or 0.
 fn number(said: Outcome) -> u8
@@ -338,6 +338,19 @@ pub extern "C" fn rovignesc_hcaa(
         scratch,
     );
     tell(answer, asked)
+}
+
+// The covariance of the columns of a matrix of returns.
+#[no_mangle]
+pub extern "C" fn rovignesc_covariance(
+    returns: &[f64],
+    returns_rows: usize,
+    returns_columns: usize,
+    covariance: &mut [f64],
+) -> u8
+    ensures { λ r. ⌜ CovarianceAnswer (now (returns .entry)) «returns_rows» «returns_columns» (length (now (covariance .entry))) r (now (covariance .exit)) ⌝ }
+{
+    number(lent::told(stats::covariance(returns, returns_rows, returns_columns, covariance)))
 }
 
 // 9, 10 and 11 of the merge step, then its linkage's name.

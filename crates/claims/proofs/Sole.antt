@@ -103,6 +103,7 @@ use Rattle.millionths.proofs.weights_in_millionths as millionths·weights-in-mi
 use Rattle.capi.proofs.rovignesc_sqrt as capi·rovignesc-sqrt
 use Rattle.capi.proofs.rovignesc_hrp as capi·rovignesc-hrp
 use Rattle.capi.proofs.rovignesc_hcaa as capi·rovignesc-hcaa
+use Rattle.capi.proofs.rovignesc_covariance as capi·rovignesc-covariance
 use Rattle.capi.proofs.rovignesc_linkage_children as capi·rovignesc-linkage-children
 use Rattle.capi.proofs.rovignesc_quasi_diagonalization as capi·rovignesc-quasi-diagonalization
 use Rattle.capi.proofs.rovignesc_listing as capi·rovignesc-listing
@@ -485,6 +486,9 @@ capi-rovignesc-hrp κs a r r′ e e′ p q = (sole (p .answer) (q .answer), kept
 pub capi-rovignesc-hcaa : Sole capi·rovignesc-hcaa.ended capi·rovignesc-hcaa.Reads.Post
 capi-rovignesc-hcaa κs a r r′ e e′ p q =
     (sole (p .answer) (q .answer), kept5 (kept5 (kept5 (kept5 (λ i. (tt, (tt, (sole (p .buffers .rows-are) (q .buffers .rows-are) i, (sole (p .buffers .order-is) (q .buffers .order-is) i, (sole (p .buffers .weights-are) (q .buffers .weights-are) i, (sole (p .buffers .scratch-is) (q .buffers .scratch-is) i, (sole (p .asked-is) (q .asked-is) i, tt))))))))))))
+
+pub capi-rovignesc-covariance : Sole capi·rovignesc-covariance.ended capi·rovignesc-covariance.Reads.Post
+capi-rovignesc-covariance κs a r r′ e e′ p q = (sole (p .answer) (q .answer), λ i. (tt, (tt, (tt, (sole (p .cells-are) (q .cells-are) i, tt)))))
 
 pub capi-rovignesc-linkage-children : Sole capi·rovignesc-linkage-children.ended capi·rovignesc-linkage-children.Reads.Post
 capi-rovignesc-linkage-children κs a r r′ e e′ p q = (sole (p .answer) (q .answer), λ i. (tt, (tt, (tt, (tt, (sole (p .rows-are) (q .rows-are) i, tt))))))

@@ -11,6 +11,7 @@ pub struct Desk {
     pub rows: Lent<usize>,
     pub order: Lent<usize>,
     pub weights: Lent<f64>,
+    pub covariance: Lent<f64>,
     pub correlations: Lent<f64>,
     pub distances: Lent<f64>,
     pub scratch: Lent<f64>,

@@ -3,10 +3,10 @@ use crate::account::{text, yes, Inputs, Matrix};
 use crate::buffers::{number, Verdict};
 use crate::case::{weight_of_rooms, Case, Desk, Judged};
 use crate::damage;
+use crate::matrices::cells;
 use crate::ours::rovignesc_hrp;
 use crate::random::Random;
 use crate::rules::{self, need};
-use nalgebra::DMatrix;
 use openquant::api::{self, Account, Allocation};
 
 #[derive(Clone)]
@@ -15,10 +15,6 @@ pub struct Hrp {
     pub shrink: u8,
     /// Rows, order, weights, correlations, distances, scratch.
     pub rooms: [usize; 6],
-}
-
-fn cells(m: &DMatrix<f64>) -> Vec<f64> {
-    (0..m.nrows()).flat_map(|r| (0..m.ncols()).map(move |c| m[(r, c)])).collect()
 }
 
 impl Hrp {

@@ -5,7 +5,7 @@ use compare::hcaa::Hcaa;
 use compare::hrp::Hrp;
 use compare::listing::Listing;
 use compare::random::Random;
-use compare::steps::{Leaves, Merge, Roots};
+use compare::steps::{Covariance, Leaves, Merge, Roots};
 use std::collections::BTreeMap;
 use std::process::ExitCode;
 use std::sync::atomic::{AtomicU64, Ordering};
@@ -76,7 +76,7 @@ impl Tally {
     }
 
     fn tell(&self, count: u64) {
-        for name in [Hrp::NAME, Hcaa::NAME, Merge::NAME, Leaves::NAME, Roots::NAME, Listing::NAME] {
+        for name in [Hrp::NAME, Hcaa::NAME, Covariance::NAME, Merge::NAME, Leaves::NAME, Roots::NAME, Listing::NAME] {
             let ends: Vec<(u8, u64)> = self.ends.iter().filter(|((call, _), _)| *call == name).map(|(&(_, end), &n)| (end, n)).collect();
             let refused: String = ends.iter().filter(|(end, _)| *end > 0).map(|(end, n)| format!(" {end}:{n}")).collect();
             let done: u64 = ends.iter().filter(|(end, _)| *end == 0).map(|(_, n)| n).sum();
@@ -117,7 +117,8 @@ fn main() -> ExitCode {
             58..=69 => tally.play::<Merge>(seed, at, &mut rng, &mut desk),
             70..=77 => tally.play::<Leaves>(seed, at, &mut rng, &mut desk),
             78..=81 => tally.play::<Roots>(seed, at, &mut rng, &mut desk),
-            _ => tally.play::<Listing>(seed, at, &mut rng, &mut desk),
+            82..=93 => tally.play::<Listing>(seed, at, &mut rng, &mut desk),
+            _ => tally.play::<Covariance>(seed, at, &mut rng, &mut desk),
         }
     }
     tally.tell(count);

@@ -1,6 +1,12 @@
 //! Covariances, returns and prices of many kinds.
 use crate::kinds::{covariance, diagonal, filled, mirrored, square, wild, Kind, TINY};
 use crate::random::{Random, ODD};
+use nalgebra::DMatrix;
+
+/// Row by row.
+pub fn cells(m: &DMatrix<f64>) -> Vec<f64> {
+    (0..m.nrows()).flat_map(|r| (0..m.ncols()).map(move |c| m[(r, c)])).collect()
+}
 
 /// How many assets: few for the most part, and now and then up to 64.
 pub fn assets(rng: &mut Random) -> usize {

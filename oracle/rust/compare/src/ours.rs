@@ -83,6 +83,15 @@ extern "C" {
         asked_len: usize,
     ) -> u8;
 
+    pub fn rovignesc_covariance(
+        returns: *const f64,
+        returns_len: usize,
+        returns_rows: usize,
+        returns_columns: usize,
+        covariance: *mut f64,
+        covariance_len: usize,
+    ) -> u8;
+
     pub fn rovignesc_linkage_children(
         distances: *const f64,
         distances_len: usize,

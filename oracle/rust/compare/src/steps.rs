@@ -1,4 +1,4 @@
-//! The merge step, the leaf order and the square root.
+//! The covariance, the merge step, the leaf order and the square root.
 use crate::account::{bytes, text};
 use crate::buffers::{hex, number, Entry};
 use crate::case::{plainer, weight, weight_of_rooms, Case, Desk, Judged};
@@ -6,32 +6,29 @@ use crate::damage;
 use crate::kinds::{any_tree, quiet, DISTANCES};
 use crate::matrices;
 use crate::names;
-use crate::ours::{rovignesc_linkage_children, rovignesc_quasi_diagonalization, rovignesc_sqrt};
+use crate::ours::{rovignesc_covariance, rovignesc_linkage_children, rovignesc_quasi_diagonalization, rovignesc_sqrt};
 use crate::random::{Random, ODD};
 use crate::rules::{self, need};
 use nalgebra::DMatrix;
 use openquant::api;
 
+/// A lone matrix, and the room of the buffer for its answer.
 #[derive(Clone)]
-pub struct Merge {
+struct Lone {
     rows: usize,
     columns: usize,
     cells: Vec<f64>,
-    linkage: Vec<u8>,
     room: usize,
 }
 
-impl Merge {
-    /// 9, 10, 11, 8, then 3.
-    fn theirs(&self, cells: &[f64]) -> Result<Vec<usize>, u8> {
-        rules::sized(self.rows, self.columns, cells.len(), self.room, || need::children(self.columns))?;
-        let linkage = api::linkage_named(&text(&self.linkage))?;
-        rules::square(self.rows, self.columns)?;
-        Ok(api::linkage_children(&DMatrix::from_row_slice(self.rows, self.columns, cells), linkage).concat())
+impl Lone {
+    /// 9, 10, 11.
+    fn sized(&self, need: fn(usize) -> usize) -> Result<(), u8> {
+        rules::sized(self.rows, self.columns, self.cells.len(), self.room, || need(self.columns))
     }
 
-    fn signals(&self) -> bool {
-        self.cells.iter().any(|x| quiet(*x).to_bits() != x.to_bits())
+    fn whole(&self) -> bool {
+        self.rows.checked_mul(self.columns) == Some(self.cells.len())
     }
 
     fn damaged(mut self, rng: &mut Random) -> Self {
@@ -44,13 +41,137 @@ impl Merge {
                 self.cells.pop();
             }
             5 => self.room = self.room.saturating_sub(1 + rng.below(8)),
-            // A slice that fits a matrix that is not square.
+            // A slice that fits a matrix of one row more.
             _ => {
                 self.rows += 1;
                 self.cells.resize(self.rows * self.columns, 0.25);
             }
         }
         self
+    }
+
+    fn size(&self, need: fn(usize) -> usize) -> usize {
+        let cells: usize = self.cells.iter().map(|&x| weight(x)).sum();
+        let rooms = weight_of_rooms(&[self.room], &[need(self.columns.min(65))]);
+        self.rows.min(99) + self.columns.min(99) + cells + rooms
+    }
+
+    fn show(&self, what: &str, answer: &str) -> String {
+        let (cells, len) = (hex(&self.cells), self.cells.len());
+        format!("{what}: {} by {}, {len} cells{cells}\nroom of {answer}: {}\n", self.rows, self.columns, self.room)
+    }
+
+    /// The cells that are kept, of a matrix that is whole: so many rows and columns less.
+    fn less(&self, rows: usize, columns: usize, kept: impl Fn(usize, usize) -> bool) -> Self {
+        let w = self.columns;
+        let cells = self.cells.iter().enumerate().filter(|(k, _)| kept(k / w, k % w)).map(|(_, x)| *x).collect();
+        Self { rows: self.rows - rows, columns: w - columns, cells, room: self.room }
+    }
+
+    /// Plainer cells; just the room that is needed.
+    fn plainer(&self, need: fn(usize) -> usize) -> Vec<Self> {
+        let plain = |(i, x)| {
+            let mut less = self.clone();
+            less.cells[i] = x;
+            less
+        };
+        let mut out: Vec<Self> = plainer(&self.cells).map(plain).collect();
+        if self.columns <= 64 {
+            out.push(Self { room: need(self.columns), ..self.clone() });
+        }
+        out
+    }
+}
+
+/// Of returns.
+#[derive(Clone)]
+pub struct Covariance(Lone);
+
+impl Covariance {
+    /// 9, 10, 11, then the source's 1.
+    fn theirs(&self) -> Result<Vec<f64>, u8> {
+        self.0.sized(need::square)?;
+        let returns = DMatrix::from_row_slice(self.0.rows, self.0.columns, &self.0.cells);
+        api::covariance(&returns).map(|m| matrices::cells(&m))
+    }
+}
+
+impl Case for Covariance {
+    const NAME: &'static str = "covariance";
+
+    fn make(rng: &mut Random) -> Self {
+        let n = if rng.below(6) == 0 { rng.below(65) } else { matrices::assets(rng) };
+        let rows = match rng.below(40) {
+            0 => rng.below(3),
+            1 => 4096 / n.max(1),
+            2..=13 => rng.below(65),
+            _ => 2 + rng.below(9),
+        };
+        let cells = matrices::returns(rng, rows, n);
+        let [room] = damage::rooms(rng, [need::square(n)]);
+        let whole = Lone { rows, columns: n, cells, room };
+        Self(if rng.below(8) == 0 { whole.damaged(rng) } else { whole })
+    }
+
+    fn judge(&self, desk: &mut Desk, junk: &mut Random) -> Judged {
+        let theirs = self.theirs();
+        desk.doubles[0].set(&self.0.cells);
+        desk.covariance.dirty(self.0.room, junk);
+        // The slices are the desk's own, and none of them overlaps another.
+        let ours = unsafe {
+            rovignesc_covariance(
+                desk.doubles[0].at(),
+                desk.doubles[0].len(),
+                self.0.rows,
+                self.0.columns,
+                desk.covariance.at(),
+                desk.covariance.len(),
+            )
+        };
+        let due = theirs.as_ref().err().copied().unwrap_or(0);
+        let verdict = number(ours, due)
+            .and_then(|()| desk.covariance.holds("covariance", theirs.as_deref().unwrap_or(&[])))
+            .and_then(|()| desk.doubles[0].unchanged("returns", &self.0.cells));
+        Judged { number: due, listed: false, verdict }
+    }
+
+    fn size(&self) -> usize {
+        self.0.size(need::square)
+    }
+
+    fn show(&self) -> String {
+        self.0.show("returns", "covariance")
+    }
+
+    fn smaller(&self) -> Vec<Self> {
+        let mut out = Vec::new();
+        if self.0.whole() {
+            out.extend((0..self.0.columns.min(64)).map(|column| self.0.less(0, 1, |_, c| c != column)));
+            out.extend((0..self.0.rows.min(64)).map(|row| self.0.less(1, 0, |r, _| r != row)));
+        }
+        out.extend(self.0.plainer(need::square));
+        out.into_iter().map(Self).collect()
+    }
+}
+
+#[derive(Clone)]
+pub struct Merge {
+    distances: Lone,
+    linkage: Vec<u8>,
+}
+
+impl Merge {
+    /// 9, 10, 11, 8, then 3.
+    fn theirs(&self, cells: &[f64]) -> Result<Vec<usize>, u8> {
+        let Lone { rows, columns, .. } = self.distances;
+        self.distances.sized(need::children)?;
+        let linkage = api::linkage_named(&text(&self.linkage))?;
+        rules::square(rows, columns)?;
+        Ok(api::linkage_children(&DMatrix::from_row_slice(rows, columns, cells), linkage).concat())
+    }
+
+    fn signals(&self) -> bool {
+        self.distances.cells.iter().any(|x| quiet(*x).to_bits() != x.to_bits())
     }
 }
 
@@ -66,29 +187,27 @@ impl Case for Merge {
             cells[i] = f64::from_bits(0x7ff0_0000_0000_0001);
         }
         let [room] = damage::rooms(rng, [need::children(n)]);
-        let whole = Self { rows: n, columns: n, cells, linkage: names::linkage(rng), room };
-        if rng.below(10) == 0 {
-            whole.damaged(rng)
-        } else {
-            whole
-        }
+        let linkage = names::linkage(rng);
+        let whole = Lone { rows: n, columns: n, cells, room };
+        let distances = if rng.below(10) == 0 { whole.damaged(rng) } else { whole };
+        Self { distances, linkage }
     }
 
     /// To document 01 one NaN is like any other, so a signalling one is judged as if it were quiet; whether the source does so too is seen apart.
     fn judge(&self, desk: &mut Desk, junk: &mut Random) -> Judged {
-        let raw = self.theirs(&self.cells);
-        let signals = self.signals();
-        let theirs = if signals { self.theirs(&self.cells.iter().map(|&x| quiet(x)).collect::<Vec<_>>()) } else { raw.clone() };
-        desk.doubles[0].set(&self.cells);
+        let cells = &self.distances.cells;
+        let raw = self.theirs(cells);
+        let theirs = if self.signals() { self.theirs(&cells.iter().map(|&x| quiet(x)).collect::<Vec<_>>()) } else { raw.clone() };
+        desk.doubles[0].set(cells);
         desk.bytes[0].set(&self.linkage);
-        desk.rows.dirty(self.room, junk);
+        desk.rows.dirty(self.distances.room, junk);
         // The slices are the desk's own, and none of them overlaps another.
         let ours = unsafe {
             rovignesc_linkage_children(
                 desk.doubles[0].at(),
                 desk.doubles[0].len(),
-                self.rows,
-                self.columns,
+                self.distances.rows,
+                self.distances.columns,
                 desk.bytes[0].at(),
                 desk.bytes[0].len(),
                 desk.rows.at(),
@@ -98,48 +217,27 @@ impl Case for Merge {
         let due = theirs.as_ref().err().copied().unwrap_or(0);
         let verdict = number(ours, due)
             .and_then(|()| desk.rows.holds("rows", theirs.as_deref().unwrap_or(&[])))
-            .and_then(|()| desk.doubles[0].unchanged("distances", &self.cells))
+            .and_then(|()| desk.doubles[0].unchanged("distances", cells))
             .and_then(|()| desk.bytes[0].unchanged("linkage", &self.linkage));
         Judged { number: due, listed: raw != theirs, verdict }
     }
 
     fn size(&self) -> usize {
-        let cells: usize = self.cells.iter().map(|&x| weight(x)).sum();
-        let rooms = weight_of_rooms(&[self.room], &[need::children(self.columns.min(65))]);
-        self.rows.min(99) + self.columns.min(99) + cells + self.linkage.len() + rooms
+        self.distances.size(need::children) + self.linkage.len()
     }
 
     fn show(&self) -> String {
-        let linkage = bytes(&self.linkage);
-        let cells = hex(&self.cells);
-        format!(
-            "distances: {} by {}, {} cells{cells}\nlinkage: {linkage}\nroom of rows: {}\n",
-            self.rows,
-            self.columns,
-            self.cells.len(),
-            self.room
-        )
+        format!("{}linkage: {}\n", self.distances.show("distances", "rows"), bytes(&self.linkage))
     }
 
     fn smaller(&self) -> Vec<Self> {
+        let m = &self.distances;
         let mut out = Vec::new();
-        let n = self.columns;
-        if self.rows == n && self.cells.len() == n * n {
-            for asset in 0..n {
-                let kept = |k: usize| k / n != asset && k % n != asset;
-                let cells = (0..n * n).filter(|&k| kept(k)).map(|k| self.cells[k]).collect();
-                out.push(Self { rows: n - 1, columns: n - 1, cells, ..self.clone() });
-            }
+        if m.rows == m.columns && m.whole() {
+            out.extend((0..m.columns).map(|asset| m.less(1, 1, |r, c| r != asset && c != asset)));
         }
-        for (i, x) in plainer(&self.cells) {
-            let mut less = self.clone();
-            less.cells[i] = x;
-            out.push(less);
-        }
-        if self.columns <= 64 {
-            out.push(Self { room: need::children(self.columns), ..self.clone() });
-        }
-        out
+        out.extend(m.plainer(need::children));
+        out.into_iter().map(|distances| Self { distances, linkage: self.linkage.clone() }).collect()
     }
 }
 

@@ -1,9 +1,10 @@
 //! Times our library and the Rust on the same matrices: a line `WHAT N OURS-ns RUST-ns RATIO` for each, medians of calls that take turns.
 use compare::kinds::{covariance, filled};
-use compare::ours::{rovignesc_hcaa, rovignesc_hrp, rovignesc_linkage_children, rovignesc_listing, rovignesc_sqrt};
+use compare::ours::{rovignesc_covariance, rovignesc_hcaa, rovignesc_hrp, rovignesc_linkage_children, rovignesc_listing, rovignesc_sqrt};
 use compare::random::Random;
 use nalgebra::DMatrix;
 use openquant::api::{self, Account, Distance, HcaaAccount, Linkage};
+use openquant::util::stats;
 use std::hint::black_box;
 use std::ptr::null;
 use std::time::Instant;
@@ -224,6 +225,21 @@ fn accounts(what: &str, given: &[Given], ours: fn(&Given, &mut Buffers) -> u8, t
     }
 }
 
+/// The source's function itself: `api::covariance` runs it twice and compares.
+fn covariances(given: &[Given]) {
+    for g in given {
+        let (n, m) = (g.assets, g.matrix());
+        let ours = |out: &mut [f64]| {
+            // Every slice is a vector of its own.
+            unsafe { rovignesc_covariance(g.cells.as_ptr(), g.cells.len(), g.rows, n, out.as_mut_ptr(), out.len()) }
+        };
+        let mut out = vec![1.5; n * n];
+        assert_eq!(ours(&mut out), 0);
+        assert_eq!(Some(DMatrix::from_row_slice(n, n, &out)), stats::covariance(&m));
+        beside("covariance", n, 1, || keep(ours(&mut out)), || keep(stats::covariance(&m)));
+    }
+}
+
 fn merges(rng: &mut Random) {
     for n in ASSETS {
         let cells: Vec<f64> = compare::kinds::mirrored(n, 0.0, || 2.0 * rng.unit());
@@ -270,6 +286,7 @@ fn main() {
     let from_covariance = ASSETS.map(|n| Given { assets: n, rows: n, cells: covariance(&mut rng, n), returns: false });
     let from_returns = ASSETS.map(|n| Given { assets: n, rows: RETURN_ROWS, cells: filled(RETURN_ROWS * n, || rng.gain()), returns: true });
     println!("WHAT N OURS-ns RUST-ns RATIO");
+    covariances(&from_returns);
     merges(&mut rng);
     accounts("hrp_covariance", &from_covariance, ours_hrp, theirs_hrp);
     accounts("hrp_returns", &from_returns, ours_hrp, theirs_hrp);
