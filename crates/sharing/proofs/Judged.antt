@@ -39,7 +39,7 @@ use Rattle.sharing.specs.declared.Splitting.the-variants as splitting
 use Rattle.sharing.specs.Split.{splitOf}
 use Rattle.sharing.specs.Allot.{splits, spreadOf, equalOf, dealTo, ifDone, variedOf, insideOf, onward, allotted, allottedAt, sharesOf}
 use Rattle.sharing.specs.Down.{isSharpe, Call, callTable, downTable, downOutcome, downAnswer, downWeights}
-use Rattle.sharing.specs.Walk.{Down}
+use Rattle.sharing.specs.Walk.{Below, Front, Down}
 
 -- ---- sharing keeps the number of weights
 
@@ -279,7 +279,7 @@ module _ (q : Call) (room : ℕ) where
           answered-as said Done a out (down-as-shares said-right ∙ table-pass _ _ _ (w .0) ∙ table-end) h k
           (o ∙ laid-front (q .assets) room part blank b l ∙ ap (laid pz Done room) (sym (w .1)))
 
--- ---- what `share` is lent: the front of a cleared buffer
+-- ---- what `share` is lent: the root's leaves, and the front of a cleared buffer
 
 take-zeros : (n m : ℕ) → n ≤ m → take n (zeros m) ≡ zeros n
 take-zeros n m h =
@@ -291,6 +291,9 @@ take-zeros n m h =
 pub front-zeros : (blank : List Float) (n room : ℕ) → blank ≡ zeros room → n ≤ room → take n blank ≡ zeros n
 front-zeros blank n room e h = rw e (take-zeros n room h)
 
+pub root : (q : Call) (room : ℕ) → Right q room → Below (q .rows) (q .assets) (2 * q .assets - 2)
+root q room p = record { on = record { some = p .some; tree = p .tree; node = le-refl (2 * q .assets - 2) }; most = p .most }
+
 module _ (q : Call) (room : ℕ) (p : Right q room) (blank : List Float) (e : blank ≡ zeros room) where
   blank-length : length blank ≡ room
   blank-length = ap length e ∙ length-replicate room pz
@@ -301,10 +304,12 @@ module _ (q : Call) (room : ℕ) (p : Right q room) (blank : List Float) (e : bl
   pub front-length : length (take (q .assets) blank) ≡ q .assets
   front-length = length-take-le (q .assets) blank front-fits
 
-  pub down-start : Down (q .metric) (q .expected) (q .rows) (q .assets) (q .clusters) (2 * q .assets - 2) (take (q .assets) blank)
+  pub down-start : {order : List ℕ} {m : ℕ} → Front (q .rows) (q .assets) (2 * q .assets - 2) order m
+      → Down (q .metric) (q .expected) (q .rows) (q .assets) (q .clusters) (2 * q .assets - 2) (take m order) (take (q .assets) blank)
   unfolding isSharpe
-  down-start = record {
-    node = record { on = record { some = p .some; tree = p .tree; node = le-refl (2 * q .assets - 2) }; most = p .most };
+  down-start f = record {
+    node = root q room p;
+    list = f .list;
     cut = p .cut;
     each = omega (arith, front-length);
     expects = λ h. p .expects (ap isSharpe h) .1;

@@ -5,7 +5,7 @@ use mathlib.Core.List.{List, _++_}
 use native.Mathlib.Nat.{le-refl, le-antisymm}
 use native.Mathlib.Numerals.{add-one}
 use native.Mathlib.Omega.{arith}
-use lib.ListN.{length, getD, set, take, drop, drop-of-length-le}
+use lib.ListN.{length, getD, set, drop, drop-of-length-le}
 use lib.Seq.{drop-cons, take-at}
 use lib.Ieee.{Float, nan, binary64, mul}
 use Rattle.arithmetic.specs.Constants.{pz}
@@ -83,8 +83,8 @@ module _ {rows : List ℕ} {n v : ℕ} (p : Below rows n v) where
       let q : answer.Matrix 1 (length (leavesOf rows n v)) ≡ answer.Refused r = sym (order-answered ordered) ∙ ap (orderAnswer rows n v) (sym e) ∙ a in
       absurd (let z : _≡_ {A = ℕ} 0 1 = cc in omega arith)
 
-  pub front-dealt : {after : List ℕ} {r : ℕ} (m : ℕ) → Front rows n v after r → n ≤ m → Dealt (take r after) m
-  front-dealt {after} {r} m f h = rw (f .list) (record { few = fits-64; each = λ j l. omega (arith, leaves-low rows n (p .on .tree) (p .on .some) v (p .on .node) j l) })
+  pub leaves-dealt : (m : ℕ) → n ≤ m → Dealt (leavesOf rows n v) m
+  leaves-dealt m h = record { few = fits-64; each = λ j l. omega (arith, leaves-low rows n (p .on .tree) (p .on .some) v (p .on .node) j l) }
 
 -- ---- one weight to each
 

@@ -26,9 +26,10 @@ pub record Dealt (members : List ℕ) (m : ℕ) : Type 0 where
   pub few : length members ≤ most-assets
   pub each : (j : ℕ) → j < length members → nth members j < m
 
--- what the recursion asks: a node, at most n clusters, a weight for each asset, and an expected return for each under Sharpe
-pub record Down (metric : Metric) (expected : List Float) (rows : List ℕ) (n k v : ℕ) (ws : List Float) : Type 0 where
+-- what the recursion asks: a node and its leaves, at most n clusters, a weight for each asset, and an expected return for each under Sharpe
+pub record Down (metric : Metric) (expected : List Float) (rows : List ℕ) (n k v : ℕ) (members : List ℕ) (ws : List Float) : Type 0 where
   pub node : Below rows n v
+  pub list : members ≡ leavesOf rows n v
   pub cut : k ≤ n
   pub each : n ≤ length ws
   pub expects : metric ≡ SharpeRatio → length expected ≡ n

@@ -7,7 +7,7 @@ use refusal::Refusal;
 use tree::Asset;
 use tree::Node;
 ghost use mathlib.Core.Path.{_≡_};
-ghost use Prim.Native.Nat.{ℕ, _≤_, _<_};
+ghost use Prim.Native.Nat.{ℕ, _<_};
 ghost use lib.ListN.{length, getD, set};
 ghost use Rattle.refusal.specs.Table.{first};
 ghost use Rattle.tree.specs.Tree.{leavesOf};
@@ -187,26 +187,21 @@ fn leaves(rows: &[usize], n: usize, node: Node, out: &mut [usize]) -> usize
     }
 }
 
-// The split between the leaves of two nodes.
-fn split_at(
-    metric: Metric,
-    expected: &[f64],
-    cov: &[f64],
-    rows: &[usize],
-    n: usize,
-    a: Node,
-    b: Node,
-) -> Splitting
-    requires { ⌜ (metric ≡ SharpeRatio → length (now expected) ≡ n) ⌝ }
-    requires { ⌜ Below (now rows) n (a .0) ⌝ }
-    requires { ⌜ Below (now rows) n (b .0) ⌝ }
-    ensures { λ s. ⌜ s ≡ splitOf metric (now (expected .entry)) (now (cov .entry)) n (leavesOf (now (rows .entry)) n (a .0)) (leavesOf (now (rows .entry)) n (b .0)) ⌝ }
+// How many leaves are below a node.
+fn leaf_count(rows: &[usize], n: usize, node: Node) -> usize
+    requires { ⌜ Below (now rows) n (node .0) ⌝ }
+    ensures { λ r. ⌜ r ≡ length (leavesOf (now (rows .entry)) n (node .0)) ⌝ }
 {
-    let mut left = [0usize; 64];
-    let l = leaves(rows, n, a, &mut left);
-    let mut right = [0usize; 64];
-    let r = leaves(rows, n, b, &mut right);
-    split_factor(metric, expected, cov, n, &left[..l], &right[..r])
+    let at = node.0;
+    if at < n {
+        return 1;
+    }
+    let k = at - n;
+    let a = rows[2 * k];
+    let b = rows[2 * k + 1];
+    let l = leaf_count(rows, n, Node(a));
+    let r = leaf_count(rows, n, Node(b));
+    l + r
 }
 
 // Gives an asset its weight.
@@ -300,26 +295,7 @@ fn inside(
     }
 }
 
-// A cut node: its leaves are one cluster.
-fn cluster(
-    metric: Metric,
-    cov: &[f64],
-    rows: &[usize],
-    n: usize,
-    node: Node,
-    weight: f64,
-    weights: &mut [f64],
-) -> bool
-    requires { ⌜ Below (now rows) n (node .0) ⌝ }
-    requires { ⌜ n ≤ length (now weights) ⌝ }
-    ensures { λ r. ⌜ told r (now (weights .exit)) ≡ insideOf metric (now (cov .entry)) n (leavesOf (now (rows .entry)) n (node .0)) weight (now (weights .entry)) ⌝ }
-{
-    let mut members = [0usize; 64];
-    let m = leaves(rows, n, node, &mut members);
-    inside(metric, cov, n, &members[..m], weight, weights)
-}
-
-// Shares a weight out below a node; false where a side, or a cut cluster, is refused.
+// Shares a weight out below a node, whose leaves are the members; false where a side, or a cut cluster, is refused.
 fn share(
     metric: Metric,
     expected: &[f64],
@@ -328,10 +304,11 @@ fn share(
     n: usize,
     clusters: usize,
     node: Node,
+    members: &[usize],
     weight: f64,
     weights: &mut [f64],
 ) -> bool
-    requires { ⌜ Down metric (now expected) (now rows) n clusters (node .0) (now weights) ⌝ }
+    requires { ⌜ Down metric (now expected) (now rows) n clusters (node .0) (now members) (now weights) ⌝ }
     ensures { λ r. ⌜ told r (now (weights .exit)) ≡ allottedAt metric (now (expected .entry)) (now (cov .entry)) (now (rows .entry)) n clusters (node .0) weight (now (weights .entry)) ⌝ }
 {
     let at = node.0;
@@ -341,11 +318,13 @@ fn share(
     }
     let k = at - n;
     if k + clusters < n {
-        return cluster(metric, cov, rows, n, node, weight, weights);
+        return inside(metric, cov, n, members, weight, weights);
     }
     let a = rows[2 * k];
     let b = rows[2 * k + 1];
-    let Splitting::By(s) = split_at(metric, expected, cov, rows, n, Node(a), Node(b)) else {
+    let l = leaf_count(rows, n, Node(a));
+    let Splitting::By(s) = split_factor(metric, expected, cov, n, &members[..l], &members[l..])
+    else {
         return false;
     };
     let f = s.factor;
@@ -357,6 +336,7 @@ fn share(
         n,
         clusters,
         Node(a),
+        &members[..l],
         weight * f,
         weights,
     ) {
@@ -370,6 +350,7 @@ fn share(
         n,
         clusters,
         Node(b),
+        &members[l..],
         weight * (1.0 - f),
         weights,
     )
@@ -455,6 +436,9 @@ pub fn allocate_down_tree(
     let Outcome::Done = said else {
         return lent::answered(said, 1, n);
     };
+    let root = Node(2 * n - 2);
+    let mut order = [0usize; 64];
+    let m = leaves(rows, n, root, &mut order);
     if !share(
         metric,
         expected,
@@ -462,7 +446,8 @@ pub fn allocate_down_tree(
         rows,
         n,
         clusters,
-        Node(2 * n - 2),
+        root,
+        &order[..m],
         1.0,
         &mut out[..n],
     ) {

@@ -1,9 +1,9 @@
 -- `sharing::allocate_down_tree` meets its contract. Assumes nothing.
 use mathlib.Core.Path.{refl, sym}
 use native.Mathlib.Omega.{arith}
-use Prim.Native.Nat.{_-_}
 use borrow.Author.Tests.{not-true, not-false}
-use Rattle.sharing.proofs.Judged.{said-right, down-refused, down-none, down-some, front-fits, front-length, down-start, down-shared, part-length, whole-length}
+use lib.Seq.{length-take-le}
+use Rattle.sharing.proofs.Judged.{said-right, down-refused, down-none, down-some, root, front-fits, front-length, down-start, down-shared, part-length, whole-length}
 use borrow.Author.Needs.{needs}
 use Rattle.sharing.proofs.allocate_down_tree.Statement.{statement}
 use Rattle.sharing.proofs.allocate_down_tree.Tie as tie
@@ -29,20 +29,32 @@ same-length c = search needs
 returns : tie.Need-returns
 returns c = down-refused _ _ _ (c .before .before .before .before .before .before .before .judge .ensures) _ _ _ (c .before .enum-told2 .given .1) (c .answered .ensures) (c .before .before .before .before .before .clear .ensures)
 
-mul-t12 : tie.Need-mul-t12
-mul-t12 c = let p = said-right _ _ _ (c .before .before .before .before .before .before .judge .ensures) (c .enum-told .given .1) in omega (arith, p .most)
+mul-t15 : tie.Need-mul-t15
+mul-t15 c = let p = said-right _ _ _ (c .before .before .before .before .before .before .judge .ensures) (c .enum-told .given .1) in omega (arith, p .most)
 
-sub-t17 : tie.Need-sub-t17
-sub-t17 c = let p = said-right _ _ _ (c .before .before .before .before .before .before .judge .ensures) (c .enum-told .given .1) in omega (arith, p .some)
+sub-t19 : tie.Need-sub-t19
+sub-t19 c = let p = said-right _ _ _ (c .before .before .before .before .before .before .judge .ensures) (c .enum-told .given .1) in omega (arith, p .some)
 
-slice-relend-prefix-share : tie.Need-slice-relend-prefix-share
-slice-relend-prefix-share c = front-fits _ _ (said-right _ _ _ (c .before .before .before .before .before .before .judge .ensures) (c .enum-told .given .1)) _ (c .before .before .before .before .clear .ensures)
+slice-aggregate-leaves : tie.Need-slice-aggregate-leaves
+slice-aggregate-leaves c = search needs
+
+leaves-requires : tie.Need-leaves-requires
+leaves-requires c κs = (root _ _ (said-right _ _ _ (c .before .before .before .before .before .before .before .judge .ensures) (c .before .enum-told .given .1)), refl)
+
+array-share-prefix-order : tie.Need-array-share-prefix-order
+array-share-prefix-order c = omega (arith, c .before .leaves .ensures .few, c .before .leaves .kept .1 .1 .1 .0)
 
 slice-aggregate-share : tie.Need-slice-aggregate-share
-slice-aggregate-share c = sym (front-length _ _ (said-right _ _ _ (c .before .before .before .before .before .before .before .judge .ensures) (c .before .enum-told .given .1)) _ (c .before .before .before .before .before .clear .ensures))
+slice-aggregate-share c = sym (length-take-le (c .before .before .leaves .result) (c .before .before .leaves .last .1 .1 .1 .0) (omega (arith, c .before .before .leaves .ensures .few, c .before .before .leaves .kept .1 .1 .1 .0)))
+
+slice-relend-prefix-share : tie.Need-slice-relend-prefix-share
+slice-relend-prefix-share c = front-fits _ _ (said-right _ _ _ (c .before .before .before .before .before .before .before .before .before .before .judge .ensures) (c .before .before .before .before .enum-told .given .1)) _ (c .before .before .before .before .before .before .before .before .clear .ensures)
+
+slice-aggregate-share-2 : tie.Need-slice-aggregate-share-2
+slice-aggregate-share-2 c = sym (front-length _ _ (said-right _ _ _ (c .before .before .before .before .before .before .before .before .before .before .before .judge .ensures) (c .before .before .before .before .before .enum-told .given .1)) _ (c .before .before .before .before .before .before .before .before .before .clear .ensures))
 
 share-requires : tie.Need-share-requires
-share-requires c κs = down-start _ _ (said-right _ _ _ (c .before .before .before .before .before .before .before .judge .ensures) (c .before .enum-told .given .1)) _ (c .before .before .before .before .before .clear .ensures)
+share-requires c κs = down-start _ _ (said-right _ _ _ (c .before .before .before .before .before .before .before .before .before .before .before .judge .ensures) (c .before .before .before .before .before .enum-told .given .1)) _ (c .before .before .before .before .before .before .before .before .before .clear .ensures) (c .before .before .before .leaves .ensures)
 
 clear-requires-2 : tie.Need-clear-requires-2
 clear-requires-2 c κs = search needs
@@ -52,8 +64,8 @@ same-length-2 c = search needs
 
 returns-2 : tie.Need-returns-2
 returns-2 c =
-    let p = said-right _ _ _ (c .before .before .before .before .before .before .before .before .before .before .before .before .before .before .before .judge .ensures) (c .before .before .before .before .before .before .before .before .before .enum-told .given .1) in
-    down-none _ _ _ (c .before .before .before .before .before .before .before .before .before .before .before .before .before .before .before .judge .ensures) (c .before .before .before .before .before .before .before .before .before .enum-told .given .1) (c .before .before .before .before .before .before .before .share .result) (c .before .before .before .before .before .before .before .share .last .1 .1 .1 .1 .1 .1 .1 .1 .0) _ _ (down-shared _ _ p _ (c .before .before .before .before .before .before .before .before .before .before .before .before .before .clear .ensures) _ (c .before .before .before .before .before .before .before .share .ensures)) (not-true (c .before .before .before .before .before .before .before .share .result) (c .before .before .before .before .if1 .taken)) (c .before .before .clear2 .ensures) (whole-length _ _ p _ (c .before .before .before .before .before .before .before .before .before .before .before .before .before .clear .ensures) (c .before .before .before .before .before .before .before .share .last .1 .1 .1 .1 .1 .1 .1 .1 .0) (c .before .before .before .before .before .before .before .share .kept .1 .1 .1 .1 .1 .1 .1 .1 .0))
+    let p = said-right _ _ _ (c .before .before .before .before .before .before .before .before .before .before .before .before .before .before .before .before .before .before .before .judge .ensures) (c .before .before .before .before .before .before .before .before .before .before .before .before .before .enum-told .given .1) in
+    down-none _ _ _ (c .before .before .before .before .before .before .before .before .before .before .before .before .before .before .before .before .before .before .before .judge .ensures) (c .before .before .before .before .before .before .before .before .before .before .before .before .before .enum-told .given .1) (c .before .before .before .before .before .before .before .share .result) (c .before .before .before .before .before .before .before .share .last .1 .1 .1 .1 .1 .1 .1 .1 .1 .0) _ _ (down-shared _ _ p _ (c .before .before .before .before .before .before .before .before .before .before .before .before .before .before .before .before .before .clear .ensures) _ (c .before .before .before .before .before .before .before .share .ensures)) (not-true (c .before .before .before .before .before .before .before .share .result) (c .before .before .before .before .if1 .taken)) (c .before .before .clear2 .ensures) (whole-length _ _ p _ (c .before .before .before .before .before .before .before .before .before .before .before .before .before .before .before .before .before .clear .ensures) (c .before .before .before .before .before .before .before .share .last .1 .1 .1 .1 .1 .1 .1 .1 .1 .0) (c .before .before .before .before .before .before .before .share .kept .1 .1 .1 .1 .1 .1 .1 .1 .1 .0))
 
 answered-requires-2 : tie.Need-answered-requires-2
 answered-requires-2 c κs = search needs
@@ -63,8 +75,8 @@ same-length-3 c = search needs
 
 returns-3 : tie.Need-returns-3
 returns-3 c =
-    let p = said-right _ _ _ (c .before .before .before .before .before .before .before .before .before .before .before .before .judge .ensures) (c .before .before .before .before .before .before .enum-told .given .1) in
-    down-some _ _ _ (c .before .before .before .before .before .before .before .before .before .before .before .before .judge .ensures) (c .before .before .before .before .before .before .enum-told .given .1) (c .before .before .before .before .share .result) (c .before .before .before .before .share .last .1 .1 .1 .1 .1 .1 .1 .1 .0) _ _ _ (down-shared _ _ p _ (c .before .before .before .before .before .before .before .before .before .before .clear .ensures) _ (c .before .before .before .before .share .ensures)) (not-false (c .before .before .before .before .share .result) (c .before .if1 .left)) (c .answered2 .ensures) (c .before .before .before .before .before .before .before .before .before .before .clear .ensures) refl (part-length _ _ p _ (c .before .before .before .before .before .before .before .before .before .before .clear .ensures) (c .before .before .before .before .share .last .1 .1 .1 .1 .1 .1 .1 .1 .0) (c .before .before .before .before .share .kept .1 .1 .1 .1 .1 .1 .1 .1 .0))
+    let p = said-right _ _ _ (c .before .before .before .before .before .before .before .before .before .before .before .before .before .before .before .before .judge .ensures) (c .before .before .before .before .before .before .before .before .before .before .enum-told .given .1) in
+    down-some _ _ _ (c .before .before .before .before .before .before .before .before .before .before .before .before .before .before .before .before .judge .ensures) (c .before .before .before .before .before .before .before .before .before .before .enum-told .given .1) (c .before .before .before .before .share .result) (c .before .before .before .before .share .last .1 .1 .1 .1 .1 .1 .1 .1 .1 .0) _ _ _ (down-shared _ _ p _ (c .before .before .before .before .before .before .before .before .before .before .before .before .before .before .clear .ensures) _ (c .before .before .before .before .share .ensures)) (not-false (c .before .before .before .before .share .result) (c .before .if1 .left)) (c .answered2 .ensures) (c .before .before .before .before .before .before .before .before .before .before .before .before .before .before .clear .ensures) refl (part-length _ _ p _ (c .before .before .before .before .before .before .before .before .before .before .before .before .before .before .clear .ensures) (c .before .before .before .before .share .last .1 .1 .1 .1 .1 .1 .1 .1 .1 .0) (c .before .before .before .before .share .kept .1 .1 .1 .1 .1 .1 .1 .1 .1 .0))
 
 pub allocate-down-tree-spec : {M : Type 1} → statement M
 allocate-down-tree-spec =
@@ -77,10 +89,14 @@ allocate-down-tree-spec =
     answered-requires
     same-length
     returns
-    mul-t12
-    sub-t17
-    slice-relend-prefix-share
+    mul-t15
+    sub-t19
+    slice-aggregate-leaves
+    leaves-requires
+    array-share-prefix-order
     slice-aggregate-share
+    slice-relend-prefix-share
+    slice-aggregate-share-2
     share-requires
     clear-requires-2
     same-length-2
