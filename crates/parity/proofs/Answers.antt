@@ -1,22 +1,22 @@
 -- What each path of the allocator answers: the tables one after the other, and the buffers. Assumes nothing.
 use Prim.Native.Nat.{ℕ, _-_, _*_, _<_, _≤_}
 use mathlib.Core.Path.{_≡_, refl, sym, ap, subst, _∙_}
-use mathlib.Core.Bool.{true, false, not}
+use mathlib.Core.Bool.{Bool, true, false, not}
 use mathlib.Core.List.{List, [], _∷_, _++_, append-assoc}
 use native.Mathlib.Omega.{arith}
 use borrow.Author.Tests.{ltb-false, eq-eqb, ne-eqb, eqb-false, eqb-true, not-false}
-use lib.Dec.{eqb}
+use lib.Dec.{ltb, eqb}
 use lib.ListN.{length, drop}
 use lib.Ieee.{Float}
 use Rattle.arithmetic.specs.Constants.{pz}
 use Rattle.refusal.specs.Table.{Line, first, orElse, andThen}
 use Rattle.refusal.specs.declared.Refusal.{Refusal}
-use Rattle.refusal.specs.declared.Refusal.the-variants.{NoData, DimensionMismatch}
+use Rattle.refusal.specs.declared.Refusal.the-variants.{NoData, DimensionMismatch, ShortBuffer}
 use Rattle.refusal.specs.declared.Outcome.{Outcome}
 use Rattle.refusal.specs.declared.Outcome.the-variants.{Done, Refused}
 use Rattle.refusal.proofs.Tables.{done-refused, table, table-pass, table-end, none, first-append, first-done, then-done, then-refused, both-done}
 use Rattle.lent.specs.Grid.{grid, zeros}
-use Rattle.lent.specs.Lent.{sizes, laid}
+use Rattle.lent.specs.Lent.{least-scratch, sizes, laid}
 use Rattle.lent.proofs.Laws.{square-in, length-grid}
 use Rattle.lent.proofs.Sizes.{sized-done, laid-refused}
 use Rattle.stats.specs.Covariance.{anyLow}
@@ -35,6 +35,12 @@ use Rattle.parity.specs.Steps.{judgeTable, Assets, Judged, exact, rowsIn
 use Rattle.parity.proofs.Laws.{sizes-pass, laid-exact, laid-front, zeros-front}
 
 -- ---- the tables
+
+pub rooms-said : (n : ℕ) (room : Room) (few cells₁ cells₂ : Bool) (o₁ o₂ o₃ o₄ o₅ r : Outcome) → o₁ ≡ orElse (ltb (room .scratch) least-scratch) ShortBuffer Done
+    → cells₁ ≡ ltb (room .distances) (n * n) → o₂ ≡ orElse cells₁ ShortBuffer o₁ → cells₂ ≡ ltb (room .correlations) (n * n) → o₃ ≡ orElse cells₂ ShortBuffer o₂ → o₄ ≡ orElse (ltb (room .weights) n) ShortBuffer o₃
+    → o₅ ≡ orElse (ltb (room .order) n) ShortBuffer o₄ → few ≡ ltb (room .rows) (2 * (n - 1)) → r ≡ orElse few ShortBuffer o₅ → r ≡ first (roomLines n room)
+unfolding roomLines
+rooms-said n room few cells₁ cells₂ o₁ o₂ o₃ o₄ o₅ r a b c d e f g h i = simp (table, table-end) (cc)
 
 pub judge-said : (len rows w : ℕ) (room : Room) (sized rooms shape rest r : Outcome) → sized ≡ first (sizes len rows w) → rooms ≡ first (roomLines w room)
     → shape ≡ orElse (eqb w 0) NoData (orElse (not (eqb rows w)) DimensionMismatch Done) → rest ≡ andThen rooms shape → r ≡ andThen sized rest → r ≡ first (judgeTable len rows w room)

@@ -3,24 +3,23 @@ use native.Mathlib.Omega.{arith}
 use mathlib.Core.Path.{sym}
 use lib.Seq.{length-take-le}
 use Rattle.hrp.proofs.Estimates.{sampled-refused, returns-fit, returns-pass, sampled-done}
-use borrow.Author.Needs.{needs}
 use Rattle.hrp.proofs.estimate_from_prices.Statement.{statement}
 use Rattle.hrp.proofs.estimate_from_prices.Tie as tie
 
 freq-step-requires : tie.Need-freq-step-requires
-freq-step-requires c κs = search needs
+freq-step-requires c κs = tt
 
 sampled-returns-requires : tie.Need-sampled-returns-requires
-sampled-returns-requires c κs = search needs
+sampled-returns-requires c κs = tt
 
 enum-known-kept : tie.Need-enum-known-kept
-enum-known-kept c = search needs
+enum-known-kept c = c .match .keys1
 
 enum-told : tie.Need-enum-told
-enum-told c = search needs
+enum-told c = c .match .keys2
 
 same-length : tie.Need-same-length
-same-length c = search needs
+same-length c = c .before .before .before .before .sampled-returns .kept .1 .1 .1 .1 .0
 
 returns : tie.Need-returns
 returns c =
@@ -54,10 +53,10 @@ estimate-requires c κs =
     (returns-pass _ _ _ _ (s .0) _ _ _ _ e (c .before .before .before .kept .given .1) f, s .1 .1)
 
 same-length-2 : tie.Need-same-length-2
-same-length-2 c = search needs
+same-length-2 c = c .before .before .before .before .before .before .before .before .before .before .sampled-returns .kept .1 .1 .1 .1 .0
 
 same-length-3 : tie.Need-same-length-3
-same-length-3 c = search needs
+same-length-3 c = c .before .before .estimate .kept .1 .1 .1 .1 .0
 
 returns-2 : tie.Need-returns-2
 returns-2 c =

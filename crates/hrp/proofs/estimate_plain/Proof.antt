@@ -1,20 +1,19 @@
 -- `hrp::estimate_plain` meets its contract. Assumes nothing.
 use Rattle.hrp.proofs.Estimates.{plain-refused, plain-done}
-use borrow.Author.Needs.{needs}
 use Rattle.hrp.proofs.estimate_plain.Statement.{statement}
 use Rattle.hrp.proofs.estimate_plain.Tie as tie
 
 covariance-requires : tie.Need-covariance-requires
-covariance-requires c κs = search needs
+covariance-requires c κs = tt
 
 enum-told : tie.Need-enum-told
-enum-told c = search needs
+enum-told c = c .match .keys1
 
 enum-told-2 : tie.Need-enum-told-2
-enum-told-2 c = search needs
+enum-told-2 c = c .match .keys2
 
 same-length : tie.Need-same-length
-same-length c = search needs
+same-length c = c .before .before .before .before .covariance .kept .1 .1 .1 .0
 
 returns : tie.Need-returns
 returns c =
@@ -23,7 +22,7 @@ returns c =
     plain-refused _ _ _ (s .0) _ _ _ e (c .enum-told2 .given .1)
 
 same-length-2 : tie.Need-same-length-2
-same-length-2 c = search needs
+same-length-2 c = c .before .before .before .before .covariance .kept .1 .1 .1 .0
 
 returns-2 : tie.Need-returns-2
 returns-2 c =

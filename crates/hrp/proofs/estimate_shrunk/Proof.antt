@@ -3,21 +3,20 @@ use native.Mathlib.Omega.{arith}
 use mathlib.Core.Path.{sym}
 use lib.Seq.{length-take-le}
 use Rattle.hrp.proofs.Estimates.{cells-fit, shrunk-refused, shrunk-done}
-use borrow.Author.Needs.{needs}
 use Rattle.hrp.proofs.estimate_shrunk.Statement.{statement}
 use Rattle.hrp.proofs.estimate_shrunk.Tie as tie
 
 estimate-plain-requires : tie.Need-estimate-plain-requires
-estimate-plain-requires c κs = search needs
+estimate-plain-requires c κs = (c .before .before .before .before .pre .0, c .before .before .before .before .pre .1 .0)
 
 enum-told : tie.Need-enum-told
-enum-told c = search needs
+enum-told c = c .match .keys1
 
 enum-told-2 : tie.Need-enum-told-2
-enum-told-2 c = search needs
+enum-told-2 c = c .match .keys2
 
 same-length : tie.Need-same-length
-same-length c = search needs
+same-length c = c .before .before .before .before .estimate-plain .kept .1 .1 .1 .0
 
 returns : tie.Need-returns
 returns c =
@@ -34,13 +33,13 @@ slice-aggregate-shrink-covariance : tie.Need-slice-aggregate-shrink-covariance
 slice-aggregate-shrink-covariance c = sym (length-take-le _ _ (slice-reshare-prefix-shrink-covariance (c .before)))
 
 shrink-covariance-requires : tie.Need-shrink-covariance-requires
-shrink-covariance-requires c κs = search needs
+shrink-covariance-requires c κs = tt
 
 same-length-2 : tie.Need-same-length-2
-same-length-2 c = search needs
+same-length-2 c = c .before .before .before .before .before .before .before .before .before .estimate-plain .kept .1 .1 .1 .0
 
 same-length-3 : tie.Need-same-length-3
-same-length-3 c = search needs
+same-length-3 c = c .before .before .shrink-covariance .kept .1 .1 .1 .0
 
 returns-2 : tie.Need-returns-2
 returns-2 c =

@@ -1,24 +1,23 @@
 -- `hrp::judge` meets its contract. Assumes nothing.
 use Rattle.hrp.specs.Steps.{judgeTable}
 use Rattle.hrp.proofs.Judged.{staged}
-use borrow.Author.Needs.{needs}
 use Rattle.hrp.proofs.judge.Statement.{statement}
 use Rattle.hrp.proofs.judge.Tie as tie
 
 judge-matrices-requires : tie.Need-judge-matrices-requires
-judge-matrices-requires c κs = search needs
+judge-matrices-requires c κs = tt
 
 judge-rooms-requires : tie.Need-judge-rooms-requires
-judge-rooms-requires c κs = search needs
+judge-rooms-requires c κs = tt
 
 judge-shapes-requires : tie.Need-judge-shapes-requires
-judge-shapes-requires c κs = search needs
+judge-shapes-requires c κs = tt
 
 and-then-requires : tie.Need-and-then-requires
-and-then-requires c κs = search needs
+and-then-requires c κs = tt
 
 and-then-requires-2 : tie.Need-and-then-requires-2
-and-then-requires-2 c κs = search needs
+and-then-requires-2 c κs = tt
 
 returns : tie.Need-returns
 unfolding judgeTable

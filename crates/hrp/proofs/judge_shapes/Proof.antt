@@ -1,51 +1,50 @@
 -- `hrp::judge_shapes` meets its contract. Assumes nothing.
 use Rattle.refusal.proofs.Tables.{table, table-end}
 use Rattle.hrp.specs.Steps.{shapesJudged}
-use borrow.Author.Needs.{needs}
 use Rattle.hrp.proofs.judge_shapes.Statement.{statement}
 use Rattle.hrp.proofs.judge_shapes.Tie as tie
 
 is-absent-requires : tie.Need-is-absent-requires
-is-absent-requires c κs = search needs
+is-absent-requires c κs = tt
 
 is-absent-requires-2 : tie.Need-is-absent-requires-2
-is-absent-requires-2 c κs = search needs
+is-absent-requires-2 c κs = tt
 
 both-requires : tie.Need-both-requires
-both-requires c κs = search needs
+both-requires c κs = tt
 
 has-other-size-requires : tie.Need-has-other-size-requires
-has-other-size-requires c κs = search needs
+has-other-size-requires c κs = tt
 
 refuse-requires : tie.Need-refuse-requires
-refuse-requires c κs = search needs
+refuse-requires c κs = tt
 
 has-other-columns-requires : tie.Need-has-other-columns-requires
-has-other-columns-requires c κs = search needs
+has-other-columns-requires c κs = tt
 
 both-requires-2 : tie.Need-both-requires-2
-both-requires-2 c κs = search needs
+both-requires-2 c κs = tt
 
 refuse-requires-2 : tie.Need-refuse-requires-2
-refuse-requires-2 c κs = search needs
+refuse-requires-2 c κs = tt
 
 has-other-columns-requires-2 : tie.Need-has-other-columns-requires-2
-has-other-columns-requires-2 c κs = search needs
+has-other-columns-requires-2 c κs = tt
 
 refuse-requires-3 : tie.Need-refuse-requires-3
-refuse-requires-3 c κs = search needs
+refuse-requires-3 c κs = tt
 
 refuse-requires-4 : tie.Need-refuse-requires-4
-refuse-requires-4 c κs = search needs
+refuse-requires-4 c κs = tt
 
 is-absent-requires-3 : tie.Need-is-absent-requires-3
-is-absent-requires-3 c κs = search needs
+is-absent-requires-3 c κs = tt
 
 both-requires-3 : tie.Need-both-requires-3
-both-requires-3 c κs = search needs
+both-requires-3 c κs = tt
 
 refuse-requires-5 : tie.Need-refuse-requires-5
-refuse-requires-5 c κs = search needs
+refuse-requires-5 c κs = tt
 
 returns : tie.Need-returns
 unfolding shapesJudged

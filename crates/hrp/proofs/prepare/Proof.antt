@@ -1,12 +1,11 @@
 -- `hrp::prepare` meets its contract. Assumes nothing.
 use mathlib.Core.Path.{refl}
 use Rattle.hrp.proofs.Estimates.{from-returns, from-prices, returns-sized, prices-sized}
-use borrow.Author.Needs.{needs}
 use Rattle.hrp.proofs.prepare.Statement.{statement}
 use Rattle.hrp.proofs.prepare.Tie as tie
 
 enum-known-returns-shape : tie.Need-enum-known-returns-shape
-enum-known-returns-shape c = search needs
+enum-known-returns-shape c = c .match .keys1
 
 estimate-requires : tie.Need-estimate-requires
 estimate-requires c κs =
@@ -14,13 +13,13 @@ estimate-requires c κs =
     (returns-sized _ _ _ _ _ _ _ _ _ (c .before .before .returns-shape .given .1) (s .0), s .1)
 
 enum-told : tie.Need-enum-told
-enum-told c = search needs
+enum-told c = c .match .keys2
 
 rows-in-requires : tie.Need-rows-in-requires
-rows-in-requires c κs = search needs
+rows-in-requires c κs = tt
 
 slice-aggregate-estimate-from-prices : tie.Need-slice-aggregate-estimate-from-prices
-slice-aggregate-estimate-from-prices c = search needs
+slice-aggregate-estimate-from-prices c = refl
 
 estimate-from-prices-requires : tie.Need-estimate-from-prices-requires
 estimate-from-prices-requires c κs =
@@ -28,13 +27,13 @@ estimate-from-prices-requires c κs =
     (rw (c .before .before .rows-in .ensures) (prices-sized _ _ _ _ _ _ _ (c .before .before .before .enum-told .given .1) (s .0)), (refl, s .1))
 
 same-length : tie.Need-same-length
-same-length c = search needs
+same-length c = c .before .before .estimate .kept .1 .1 .1 .1 .0
 
 returns : tie.Need-returns
 returns c = from-returns _ _ _ _ _ _ _ _ _ _ _ (c .before .before .before .before .before .returns-shape .given .1) (c .before .before .estimate .ensures)
 
 same-length-2 : tie.Need-same-length-2
-same-length-2 c = search needs
+same-length-2 c = c .before .before .before .estimate-from-prices .kept .1 .1 .1 .1 .1 .1 .0
 
 returns-2 : tie.Need-returns-2
 returns-2 c =

@@ -13,10 +13,12 @@ use Rattle.parity.proofs.arrange.Statement.{statement}
 use Rattle.parity.proofs.arrange.Tie as tie
 
 corr-to-distances-requires : tie.Need-corr-to-distances-requires
-corr-to-distances-requires c κs = search needs
+corr-to-distances-requires c κs = tt
 
 link-requires : tie.Need-link-requires
-link-requires c κs = search needs
+link-requires c κs =
+    let p = c .before .before .before .before .before .before .before .before .before .before .before .before .pre in
+    (p .0 .wide, (c .before .before .before .before .before .corr-to-distances .kept .1 .1 .1 .1 .0 ∙ p .1 .1 .1 .1 .0, (p .1 .1 .1 .1 .1, p .1 .1 .0)))
 
 mul-last : tie.Need-mul-last
 mul-last c = search needs
@@ -25,19 +27,19 @@ sub-last : tie.Need-sub-last
 sub-last c = search needs
 
 quasi-diagonalization-requires : tie.Need-quasi-diagonalization-requires
-quasi-diagonalization-requires c κs = search needs
+quasi-diagonalization-requires c κs = tt
 
 same-length : tie.Need-same-length
-same-length c = search needs
+same-length c = c .before .before .before .before .before .before .before .before .before .link .kept .1 .1 .1 .1 .0
 
 same-length-2 : tie.Need-same-length-2
-same-length-2 c = search needs
+same-length-2 c = c .before .before .quasi-diagonalization .kept .1 .1 .1 .0
 
 same-length-3 : tie.Need-same-length-3
-same-length-3 c = search needs
+same-length-3 c = c .before .before .before .before .before .before .before .before .before .before .before .before .before .before .before .corr-to-distances .kept .1 .1 .1 .1 .0
 
 same-length-4 : tie.Need-same-length-4
-same-length-4 c = search needs
+same-length-4 c = c .before .before .before .before .before .before .before .before .before .link .kept .1 .1 .1 .0
 
 returns : tie.Need-returns
 unfolding rowsIn

@@ -1,6 +1,5 @@
 -- `parity::link` meets its contract. Assumes nothing.
 use mathlib.Core.Path.{ap, _∙_}
-use borrow.Author.Needs.{needs}
 use Rattle.linkage.specs.Merge.{mergeRows}
 use Rattle.linkage.specs.declared.Linkage.the-variants.{Single}
 use Rattle.parity.proofs.Laws.{betweens-exact, rows-exact, tree-plain, tree-between}
@@ -8,22 +7,22 @@ use Rattle.parity.proofs.link.Statement.{statement}
 use Rattle.parity.proofs.link.Tie as tie
 
 enum-told : tie.Need-enum-told
-enum-told c = search needs
+enum-told c = c .match .keys1
 
 linkage-children-requires : tie.Need-linkage-children-requires
-linkage-children-requires c κs = search needs
+linkage-children-requires c κs = tt
 
 enum-told-2 : tie.Need-enum-told-2
-enum-told-2 c = search needs
+enum-told-2 c = c .match .keys2
 
 distance-of-distances-requires : tie.Need-distance-of-distances-requires
-distance-of-distances-requires c κs = search needs
+distance-of-distances-requires c κs = tt
 
 linkage-children-requires-2 : tie.Need-linkage-children-requires-2
-linkage-children-requires-2 c κs = search needs
+linkage-children-requires-2 c κs = tt
 
 same-length : tie.Need-same-length
-same-length c = search needs
+same-length c = c .before .before .linkage-children .kept .1 .1 .1 .1 .0
 
 returns : tie.Need-returns
 returns c =
@@ -31,10 +30,10 @@ returns c =
     rows-exact (s .args .n) (s .pre .0) Single (s .args .d .now) _ (s .pre .1 .0) _ (s .pre .1 .1 .1) (c .before .before .linkage-children .ensures .1) ∙ ap (mergeRows Single (s .args .n)) (tree-plain (s .args .distance) (s .args .d .now) (s .args .n) (c .before .before .before .before .enum-told .given .1))
 
 same-length-2 : tie.Need-same-length-2
-same-length-2 c = search needs
+same-length-2 c = c .before .before .before .before .before .before .before .distance-of-distances .kept .1 .1 .1 .0
 
 same-length-3 : tie.Need-same-length-3
-same-length-3 c = search needs
+same-length-3 c = c .before .before .linkage-children2 .kept .1 .1 .1 .1 .0
 
 returns-2 : tie.Need-returns-2
 returns-2 c =

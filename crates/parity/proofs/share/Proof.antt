@@ -1,17 +1,16 @@
 -- `parity::share` meets its contract. Assumes nothing.
-use borrow.Author.Needs.{needs}
 use Rattle.parity.proofs.Laws.{share-told, share-laid}
 use Rattle.parity.proofs.share.Statement.{statement}
 use Rattle.parity.proofs.share.Tie as tie
 
 recursive-bisection-min-var-requires : tie.Need-recursive-bisection-min-var-requires
-recursive-bisection-min-var-requires c κs = search needs
+recursive-bisection-min-var-requires c κs = tt
 
 told-requires : tie.Need-told-requires
-told-requires c κs = search needs
+told-requires c κs = tt
 
 same-length : tie.Need-same-length
-same-length c = search needs
+same-length c = c .before .before .before .recursive-bisection-min-var .kept .1 .1 .1 .1 .0
 
 returns : tie.Need-returns
 returns c =

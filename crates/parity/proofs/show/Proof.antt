@@ -1,7 +1,6 @@
 -- `parity::show` meets its contract. Assumes nothing.
-use mathlib.Core.Path.{ap, _∙_}
+use mathlib.Core.Path.{sym, ap, _∙_}
 use mathlib.Core.List.{List}
-use borrow.Author.Needs.{needs}
 use lib.Ieee.{Float}
 use Rattle.parity.specs.Parity.{seriatedIn}
 use Rattle.parity.proofs.Laws.{seriated-exact}
@@ -9,22 +8,22 @@ use Rattle.parity.proofs.show.Statement.{statement}
 use Rattle.parity.proofs.show.Tie as tie
 
 seriate-matrix-requires : tie.Need-seriate-matrix-requires
-seriate-matrix-requires c κs = search needs
+seriate-matrix-requires c κs = tt
 
 copy-requires : tie.Need-copy-requires
-copy-requires c κs = search needs
+copy-requires c κs = c .before .before .before .before .before .before .before .before .before .before .before .pre .for-scratch ∙ sym (c .before .before .before .before .before .before .before .before .before .before .before .pre .for-distances)
 
 seriate-matrix-requires-2 : tie.Need-seriate-matrix-requires-2
-seriate-matrix-requires-2 c κs = search needs
+seriate-matrix-requires-2 c κs = tt
 
 same-length : tie.Need-same-length
-same-length c = search needs
+same-length c = c .before .before .before .before .before .before .before .before .before .before .before .before .seriate-matrix .kept .1 .1 .1 .1 .0
 
 same-length-2 : tie.Need-same-length-2
-same-length-2 c = search needs
+same-length-2 c = c .before .before .seriate-matrix2 .kept .1 .1 .1 .1 .0
 
 same-length-3 : tie.Need-same-length-3
-same-length-3 c = search needs
+same-length-3 c = c .before .before .before .before .before .before .before .copy .kept .1 .0
 
 returns : tie.Need-returns
 returns c =
