@@ -17,17 +17,19 @@ use Rattle.refusal.specs.declared.Outcome.the-variants.{Done, Refused}
 use Rattle.refusal.proofs.Tables.{done-refused, none, table, table-hit, table-pass, table-end, first-append, first-done, first-refused, then-done, then-refused, both-done, parts-done}
 use Rattle.lent.specs.Grid.{tab}
 use Rattle.lent.specs.Lent.{sizes}
+use Rattle.lent.specs.declared.Answer.{Answer}
+use Rattle.lent.specs.declared.Answer.the-variants as answer
 use Rattle.lent.specs.declared.Shape.{Shape}
 use Rattle.lent.specs.declared.Shape.the-variants.{Absent, Of}
 use Rattle.lent.proofs.Laws.{square-in, length-grid, length-tab}
 use Rattle.lent.proofs.Sizes.{Sized, sized-done, laid-refused}
 use Rattle.text.specs.Bytes.{bytes, same}
 use Rattle.text.proofs.Names.{same-eq}
-use Rattle.resample.specs.Resample.{stepOf, keptRows}
+use Rattle.resample.specs.Resample.{stepOf}
 use Rattle.linkage.specs.declared.Distance.{Distance}
 use Rattle.linkage.specs.declared.Linkage.{Linkage}
 use Rattle.stats.specs.Expected.{meanReturn, exponentialReturn}
-use Rattle.inputs.specs.Inputs.{absent, otherSize, matrixLines, noReturns, madeReturns}
+use Rattle.inputs.specs.Inputs.{absent, otherSize, matrixLines, madeAnswer, madeLaid}
 use Rattle.inputs.proofs.Laws.{sizes-pass, Fits, Matrices, matrices-done}
 use Rattle.sharing.specs.declared.Metric.the-variants.{MinimumVariance, MinimumStandardDeviation, SharpeRatio, EqualWeighting}
 use Rattle.sharing.specs.declared.NamedMetric.{NamedMetric}
@@ -36,7 +38,9 @@ use Rattle.sharing.specs.Names.{metricNamed, isTailRisk}
 use Rattle.sharing.specs.Down.{isSharpe}
 use Rattle.hierarchy.specs.Hierarchy.{Rule, Room, roomLines, expectedLines, shareLines, hierarchyTable, hierarchyOutcome, Laid, Answered, Cleared}
 use Rattle.hcaa.specs.declared.Clusters.{Clusters}
-use Rattle.hcaa.specs.Hcaa.{Job, job, returnRows, returnColumns, returnCells, pricesRefused, rowsMade, columnsMade, cellsMade, covarianceOf, usedCovariance, metricOf, usedMetric, unnamed, isMean, isExponential, expectedOf, usedExpected, usedRule, nameLines, matrixRules, sharpeLines, hcaaTable, outcomeOf, Allocated}
+use Rattle.hcaa.proofs.Equal.{equally}
+use Rattle.hcaa.proofs.Prices.{none-made, kept-rows, price-rules, returns-are}
+use Rattle.hcaa.specs.Hcaa.{Job, job, returnRows, returnColumns, returnCells, pricesRefused, rowsMade, columnsMade, cellsMade, covarianceOf, usedCovariance, metricOf, usedMetric, unnamed, isMean, isExponential, expectedOf, usedExpected, usedRule, nameLines, matrixRules, sharpeLines, hcaaTable, outcomeOf, Allocated, Equally}
 use Rattle.hcaa.specs.Steps.{named, namesJudged, judgeTable, held, rulesJudged, expectedJudged, sizesOf, Ready, lastLines, Finished}
 
 -- ---- the metric's name: 2 and 12 are never given for the same name
@@ -288,13 +292,13 @@ module _ (n : ℕ) (p : List Float) (ps : Shape) (xs : List Float) (rs : Shape) 
 module _ (n : ℕ) (p : List Float) (c : List Float) (cs : Shape) (e : List Float) (given : Bool) (m method : List ℕ) (k : Clusters) (by : List ℕ) (d : Distance) (l : Linkage)
     (room : Room) (r : Outcome) (rows order : List ℕ) (weights scratch : List Float) where
   -- returns that are given: prices beside them are not looked at
-  pub from-returns : (ps : Shape) (xs : List Float) (rs : Shape) (h w : ℕ) → rs ≡ Of h w → Finished (held n xs h w c cs e given m method k d l) room r rows order weights scratch
+  from-returns : (ps : Shape) (xs : List Float) (rs : Shape) (h w : ℕ) → rs ≡ Of h w → Finished (held n xs h w c cs e given m method k d l) room r rows order weights scratch
       → Finished (job n p ps xs rs c cs e given m method k by d l) room r rows order weights scratch
   unfolding rowsMade columnsMade cellsMade returnRows returnColumns returnCells pricesRefused
   from-returns ps xs rs h w q z = rw q (carried n p ps xs (Of h w) by [] Absent xs (Of h w) [] c cs e given m method k d l refl refl refl refl room r rows order weights scratch z)
 
   -- returns that are absent: their slice is not looked at
-  pub without-slice : (ps : Shape) (xs : List Float) (rs : Shape) → rs ≡ Absent → Finished (job n p ps [] Absent c cs e given m method k by d l) room r rows order weights scratch
+  without-slice : (ps : Shape) (xs : List Float) (rs : Shape) → rs ≡ Absent → Finished (job n p ps [] Absent c cs e given m method k by d l) room r rows order weights scratch
       → Finished (job n p ps xs rs c cs e given m method k by d l) room r rows order weights scratch
   unfolding rowsMade columnsMade cellsMade returnRows returnColumns returnCells pricesRefused
   without-slice ps xs rs q z = rw q (go ps z)
@@ -309,12 +313,19 @@ module _ (n : ℕ) (p : List Float) (c : List Float) (cs : Shape) (e : List Floa
   unfolding rowsMade columnsMade cellsMade returnRows returnColumns returnCells pricesRefused
   from-nothing ps q z = rw q (carried n p Absent [] Absent by [] Absent [] (Of 0 0) [] c cs e given m method k d l refl refl refl refl room r rows order weights scratch z)
 
-  -- returns made from prices
-  pub from-prices : (h w kept : ℕ) (made : List Float) → noReturns p h w (stepOf by) ≡ false → kept ≡ keptRows h (stepOf by) - 1 → made ≡ madeReturns p h w (stepOf by)
-      → Finished (held n made kept w c cs e given m method k d l) room r rows order weights scratch
+  -- returns made from prices, in a buffer of 4,096 doubles
+  pub from-prices : (h w s cells : ℕ) → cells ≡ 4096 → first (sizes (length p) h w) ≡ Done → s ≡ stepOf by → (a : Answer) → a ≡ madeAnswer p h w s cells
+      → (kept v : ℕ) (made : List Float) → a ≡ answer.Matrix kept v → made ≡ madeLaid p h w s cells
+      → Finished (held n (take (kept * w) made) kept w c cs e given m method k d l) room r rows order weights scratch
       → Finished (job n p (Of h w) [] Absent c cs e given m method k by d l) room r rows order weights scratch
   unfolding rowsMade columnsMade cellsMade returnRows returnColumns returnCells pricesRefused
-  from-prices h w kept made t q f z = carried n p (Of h w) [] Absent by [] Absent made (Of kept w) [] c cs e given m method k d l (sym q) refl (sym f) t room r rows order weights scratch z
+  from-prices h w s cells full ok q a i kept v made g f z =
+      carried n p (Of h w) [] Absent by [] Absent (take (kept * w) made) (Of kept w) [] c cs e given m method k d l
+      (rw (← q) (sym (kept-rows p h w s cells full ok a i kept v made g f)))
+      refl
+      (rw (← q) (sym (returns-are p h w s cells full ok a i kept v made g f)))
+      (rw (← q) (price-rules p h w s cells full ok a i kept v made g f))
+      room r rows order weights scratch z
 
   -- prices of a shape
   pub of-prices : (ps : Shape) (h w : ℕ) → ps ≡ Of h w → Finished (job n p (Of h w) [] Absent c cs e given m method k by d l) room r rows order weights scratch
@@ -323,11 +334,14 @@ module _ (n : ℕ) (p : List Float) (c : List Float) (cs : Shape) (e : List Floa
 
 -- prices that are refused
 pub prices-refused : (n : ℕ) (p : List Float) (h w : ℕ) (c : List Float) (cs : Shape) (e : List Float) (given : Bool) (m method : List ℕ) (k : Clusters) (by : List ℕ) (d : Distance) (l : Linkage)
-    → noReturns p h w (stepOf by) ≡ true → (room : Room) (rows order : List ℕ) (weights scratch : List Float) → Cleared room rows order weights scratch
+    (s cells : ℕ) → cells ≡ 4096 → first (sizes (length p) h w) ≡ Done → s ≡ stepOf by → (a : Answer) → a ≡ madeAnswer p h w s cells → (f : Refusal) → a ≡ answer.Refused f
+    → (room : Room) (rows order : List ℕ) (weights scratch : List Float) → Cleared room rows order weights scratch
     → Finished (job n p (Of h w) [] Absent c cs e given m method k by d l) room (Refused NoData) rows order weights scratch
 unfolding lastLines matrixRules pricesRefused
-prices-refused n p h w c cs e given m method k by d l t room rows order weights scratch z =
-    finished-refused (job n p (Of h w) [] Absent c cs e given m method k by d l) room (Refused NoData) NoData rows order weights scratch (table-hit _ NoData _ t) refl z
+prices-refused n p h w c cs e given m method k by d l s cells full ok q a i f g room rows order weights scratch z =
+    finished-refused (job n p (Of h w) [] Absent c cs e given m method k by d l) room (Refused NoData) NoData rows order weights scratch
+    (table-hit _ NoData _ (rw (← q) (none-made p h w s cells full ok a i f g)))
+    refl z
 
 -- ---- every call
 
@@ -345,12 +359,12 @@ sizes-of (Of h w) len f = sizes-pass len h w f
 
 -- what a call that its judge lets pass knows
 module _ (n : ℕ) (ps : Shape) (pl : ℕ) (rs : Shape) (rl : ℕ) (cs : Shape) (cl : ℕ) (name : List ℕ) (room : Room) (said : Outcome) (e : said ≡ first (judgeTable n ps pl rs rl cs cl name room)) where
-  pub record Started : Type 0 where
-    pub prices : first (sizesOf ps pl) ≡ Done
-    pub returns : first (sizesOf rs rl) ≡ Done
-    pub ready : Ready n cs cl room
+  record Started : Type 0 where
+    prices : first (sizesOf ps pl) ≡ Done
+    returns : first (sizesOf rs rl) ≡ Done
+    ready : Ready n cs cl room
 
-  pub starts : said ≡ Done → Started
+  starts : said ≡ Done → Started
   unfolding judgeTable namesJudged
   starts h =
       let a = parts-done (matrixLines n ps pl rs rl cs cl) _ (sym e ∙ h) in
@@ -362,6 +376,12 @@ module _ (n : ℕ) (ps : Shape) (pl : ℕ) (rs : Shape) (rl : ℕ) (cs : Shape) 
         returns = sizes-of _ _ (m .returns);
         ready = record { few = m .few; some = t .1 .1 .1 .0; covariance = sizes-of _ _ (m .covariance); roomy = b .0 };
       }
+
+  pub started-without : said ≡ Done → (first (sizesOf ps pl) ≡ Done) × Ready n cs cl room
+  started-without h = (starts h .prices, starts h .ready)
+
+  pub started-returns : (r w : ℕ) → said ≡ Done → rs ≡ Of r w → (first (sizes rl r w) ≡ Done) × Ready n cs cl room
+  started-returns r w h q = (of-sizes rs rl r w q (starts h .returns), starts h .ready)
 
 module _ (j : Job) (room : Room) where
   abbrev judged : List Line
@@ -377,12 +397,33 @@ module _ (j : Job) (room : Room) where
 
   module _ (said : Outcome) (e : said ≡ first judged) where
     module _ (rows order : List ℕ) (weights scratch : List Float) where
-      pub ends-refused : (k : Refusal) → said ≡ Refused k → Cleared room rows order weights scratch → Allocated j room said rows order weights scratch
+      ends-refused : (k : Refusal) → said ≡ Refused k → Cleared room rows order weights scratch → Allocated j room said rows order weights scratch
       ends-refused k h z =
           let r : outcomeOf j room ≡ Refused k = outcome-is ∙ then-refused (first judged) _ k (sym e ∙ h) in
           record { answer = h ∙ sym r; buffers = cleared _ k (usedRule j) (j .distance) (j .linkage) (usedCovariance j) (j .assets) room rows order weights scratch r z }
 
-      pub ends-done : said ≡ Done → (r : Outcome) → Finished j room r rows order weights scratch → Allocated j room r rows order weights scratch
+      ends-done : said ≡ Done → (r : Outcome) → Finished j room r rows order weights scratch → Allocated j room r rows order weights scratch
       ends-done h r f =
           let o : outcomeOf j room ≡ first (lastLines j) = outcome-is ∙ then-done (first judged) _ (sym e ∙ h) in
           record { answer = f .answer ∙ sym o; buffers = rw o (f .buffers) }
+
+-- how each way through a call ends: with what is promised of it
+module _ (n : ℕ) (p : List Float) (ps : Shape) (xs : List Float) (rs : Shape) (c : List Float) (cs : Shape) (e : List Float) (given : Bool) (m method : List ℕ) (k : Clusters) (by : List ℕ) (d : Distance) (l : Linkage)
+    (room : Room) (said : Outcome) (s : said ≡ first (judgeTable n ps (length p) rs (length xs) cs (length c) m room)) (rows order : List ℕ) (weights scratch : List Float) where
+  abbrev call : Job
+  call = job n p ps xs rs c cs e given m method k by d l
+
+  abbrev Ended : Outcome → Type 0
+  Ended r = Allocated call room r rows order weights scratch × Equally call r rows weights
+
+  ended : (r : Outcome) → Allocated call room r rows order weights scratch → Ended r
+  ended r a = (a, equally call room r rows order weights scratch a)
+
+  pub ended-refused : (f : Refusal) → said ≡ Refused f → Cleared room rows order weights scratch → Ended said
+  ended-refused f h z = ended said (ends-refused call room said s rows order weights scratch f h z)
+
+  pub ended-returns : (r : Outcome) (h w : ℕ) → said ≡ Done → rs ≡ Of h w → Finished (held n xs h w c cs e given m method k d l) room r rows order weights scratch → Ended r
+  ended-returns r h w g q z = ended r (ends-done call room said s rows order weights scratch g r (from-returns n p c cs e given m method k by d l room r rows order weights scratch ps xs rs h w q z))
+
+  pub ended-without : (r : Outcome) → said ≡ Done → rs ≡ Absent → Finished (job n p ps [] Absent c cs e given m method k by d l) room r rows order weights scratch → Ended r
+  ended-without r g q z = ended r (ends-done call room said s rows order weights scratch g r (without-slice n p c cs e given m method k by d l room r rows order weights scratch ps xs rs q z))

@@ -13,7 +13,7 @@ refuse-requires-2 c κs = search needs
 
 returns : tie.Need-returns
 unfolding byteLines
-returns c = simp (table, table-end) (cc)
+returns c = simp (table, table-end) (rw (c .refuse2 .ensures, c .before .refuse .ensures))
 
 pub judge-bytes-spec : {M : Type 1} → statement M
 judge-bytes-spec = tie.close (tie.spec refuse-requires refuse-requires-2 returns)

@@ -16,7 +16,7 @@ refuse-requires-3 c κs = search needs
 
 returns : tie.Need-returns
 unfolding leafSizes
-returns c = simp (table, table-end) (cc)
+returns c = simp (table, table-end) (rw (c .refuse3 .ensures, c .before .refuse2 .ensures, c .before .before .refuse .ensures))
 
 pub judge-leaves-spec : {M : Type 1} → statement M
 judge-leaves-spec =

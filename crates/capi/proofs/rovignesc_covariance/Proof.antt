@@ -18,7 +18,7 @@ number-requires : tie.Need-number-requires
 number-requires c κs = search needs
 
 same-length : tie.Need-same-length
-same-length c = search needs
+same-length c = c .before .before .before .before .covariance .kept .1 .1 .1 .0
 
 returns : tie.Need-returns
 unfolding covarianceAnswer

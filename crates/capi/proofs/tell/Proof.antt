@@ -17,7 +17,7 @@ enum-told : tie.Need-enum-told
 enum-told c = search needs
 
 same-length : tie.Need-same-length
-same-length c = search needs
+same-length c = c .before .before .before .before .clear-numbers .kept .0
 
 returns : tie.Need-returns
 returns c = (sym (ap numberIn (c .enum-told .given .1)), tell-done _ _ _ (c .before .before .before .before .clear-numbers .ensures) (c .enum-told .given .1))
@@ -26,7 +26,7 @@ number-requires : tie.Need-number-requires
 number-requires c κs = search needs
 
 same-length-2 : tie.Need-same-length-2
-same-length-2 c = search needs
+same-length-2 c = c .before .before .before .before .before .before .before .clear-numbers .kept .0
 
 returns-2 : tie.Need-returns-2
 returns-2 c = (c .number .ensures ∙ sym (ap numberIn (c .before .before .before .said .given .1)), tell-short _ _ _ (c .before .before .before .before .before .before .before .clear-numbers .ensures) (c .before .if1 .taken))

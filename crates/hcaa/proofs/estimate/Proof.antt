@@ -15,7 +15,7 @@ mean-expected-returns-requires : tie.Need-mean-expected-returns-requires
 mean-expected-returns-requires c κs = search needs
 
 same-length : tie.Need-same-length
-same-length c = search needs
+same-length c = c .before .before .mean-expected-returns .kept .1 .1 .1 .0
 
 returns : tie.Need-returns
 returns c =
@@ -26,7 +26,7 @@ exponential-expected-returns-requires : tie.Need-exponential-expected-returns-re
 exponential-expected-returns-requires c κs = search needs
 
 same-length-2 : tie.Need-same-length-2
-same-length-2 c = search needs
+same-length-2 c = c .before .before .exponential-expected-returns .kept .1 .1 .1 .0
 
 returns-2 : tie.Need-returns-2
 returns-2 c =
