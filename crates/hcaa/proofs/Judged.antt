@@ -14,7 +14,7 @@ use Rattle.refusal.specs.declared.Refusal.{Refusal}
 use Rattle.refusal.specs.declared.Refusal.the-variants.{NoData, UnknownAllocationMetric, DimensionMismatch, MissingExpectedReturnsForSharpe, TailRiskMetric}
 use Rattle.refusal.specs.declared.Outcome.{Outcome}
 use Rattle.refusal.specs.declared.Outcome.the-variants.{Done, Refused}
-use Rattle.refusal.proofs.Tables.{done-refused, none, table, table-hit, table-pass, table-end, first-append, first-done, first-refused, then-done, then-refused, both-done, parts-done}
+use Rattle.refusal.proofs.Tables.{none, table, table-hit, table-pass, table-end, first-append, first-done, then-done, then-refused, both-done, parts-done}
 use Rattle.lent.specs.Grid.{tab}
 use Rattle.lent.specs.Lent.{sizes}
 use Rattle.lent.specs.declared.Answer.{Answer}
@@ -30,7 +30,7 @@ use Rattle.linkage.specs.declared.Distance.{Distance}
 use Rattle.linkage.specs.declared.Linkage.{Linkage}
 use Rattle.stats.specs.Expected.{meanReturn, exponentialReturn}
 use Rattle.inputs.specs.Inputs.{absent, otherSize, matrixLines, madeAnswer, madeLaid}
-use Rattle.inputs.proofs.Laws.{sizes-pass, Fits, Matrices, matrices-done}
+use Rattle.inputs.proofs.Laws.{sizes-pass, Fits, matrices-done}
 use Rattle.sharing.specs.declared.Metric.the-variants.{MinimumVariance, MinimumStandardDeviation, SharpeRatio, EqualWeighting}
 use Rattle.sharing.specs.declared.NamedMetric.{NamedMetric}
 use Rattle.sharing.specs.declared.NamedMetric.the-variants as metric

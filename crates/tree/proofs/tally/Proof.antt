@@ -1,11 +1,10 @@
 -- `tree::tally` meets its contract. What is counted, and what is left of the list, make the count. Assumes nothing.
-use Prim.Native.Nat.{ℕ, _+_, _-_, _≤_, _<_}
+use Prim.Native.Nat.{_-_, _≤_}
 use mathlib.Core.Path.{refl}
 use mathlib.Core.Logic.{⊎-elim}
 use native.Mathlib.Omega.{arith}
-use lib.ListN.{length, getD, drop}
+use lib.ListN.{length, getD}
 use borrow.Author.Needs.{needs}
-use Rattle.lent.specs.Count.{count}
 use Rattle.tree.proofs.Counted.{Tallying, tally-start, tally-hit, tally-miss, tally-end}
 use Rattle.tree.proofs.tally.Statement.{statement}
 use Rattle.tree.proofs.tally.Tie as tie
