@@ -1,8 +1,8 @@
--- Document 01, "Refusal numbers": the number and the values of each case. Definitions only.
+-- Document 01, "Refusal numbers", and document 02, request 1: the number and the values of each case. Definitions only.
 use Prim.Native.Nat.{ℕ}
 use mathlib.Core.List.{List, [], _∷_}
 use Rattle.refusal.specs.declared.Refusal.{Refusal}
-use Rattle.refusal.specs.declared.Refusal.the-variants.{NoData, UnknownAllocationMetric, DimensionMismatch, MissingExpectedReturnsForSharpe, UnknownReturns, InvalidNumClusters, UnknownDistance, UnknownLinkage, OverLimit, SliceLength, ShortBuffer, TailRiskMetric, WeightOutOfRange, NoTree, MalformedText}
+use Rattle.refusal.specs.declared.Refusal.the-variants.{NoData, UnknownAllocationMetric, DimensionMismatch, MissingExpectedReturnsForSharpe, UnknownReturns, InvalidNumClusters, UnknownDistance, UnknownLinkage, OverLimit, SliceLength, ShortBuffer, WeightOutOfRange, NoTree, MalformedText, MissingReturnsForTailRisk, ConfidenceOutOfRange}
 
 abbrev pub numberOf : Refusal → ℕ
 -- "`NoData`, as ordered below"
@@ -26,14 +26,15 @@ numberOf OverLimit = 9
 numberOf SliceLength = 10
 -- "an answer buffer is too short, or scratch has under 8,192 doubles"
 numberOf ShortBuffer = 11
--- "metric is `expected_shortfall` or `conditional_drawdown_risk`"
-numberOf TailRiskMetric = 12
 -- "a weight to be put in millionths is NaN, below 0 or above 1"
 numberOf WeightOutOfRange = 13
 -- "merge rows are no tree, a node number is above 2n − 2, or an asset number above n − 1, or a given leaf order isn't each asset once"
 numberOf NoTree = 14
 -- "job text is malformed"
 numberOf MalformedText = 15
+-- document 02, request 1: "12 is no longer given; 16, no return rows"; "17, under these two metrics, confidence NaN or outside 0 to 1"
+numberOf MissingReturnsForTailRisk = 16
+numberOf ConfidenceOutOfRange = 17
 
 -- "Each refusal returns its number (6 also the count asked and the assets)"
 abbrev pub valuesOf : Refusal → List ℕ
@@ -48,7 +49,8 @@ valuesOf UnknownLinkage = []
 valuesOf OverLimit = []
 valuesOf SliceLength = []
 valuesOf ShortBuffer = []
-valuesOf TailRiskMetric = []
 valuesOf WeightOutOfRange = []
 valuesOf NoTree = []
 valuesOf MalformedText = []
+valuesOf MissingReturnsForTailRisk = []
+valuesOf ConfidenceOutOfRange = []

@@ -19,10 +19,11 @@ pub enum Refusal {
     OverLimit,
     SliceLength,
     ShortBuffer,
-    TailRiskMetric,
     WeightOutOfRange,
     NoTree,
     MalformedText,
+    MissingReturnsForTailRisk,
+    ConfidenceOutOfRange,
 }
 
 pub enum Outcome {
@@ -48,10 +49,11 @@ pub fn number(r: Refusal) -> u8
         Refusal::OverLimit => 9,
         Refusal::SliceLength => 10,
         Refusal::ShortBuffer => 11,
-        Refusal::TailRiskMetric => 12,
         Refusal::WeightOutOfRange => 13,
         Refusal::NoTree => 14,
         Refusal::MalformedText => 15,
+        Refusal::MissingReturnsForTailRisk => 16,
+        Refusal::ConfidenceOutOfRange => 17,
     }
 }
 
@@ -74,10 +76,11 @@ pub fn requested(r: Refusal) -> usize
         Refusal::OverLimit => 0,
         Refusal::SliceLength => 0,
         Refusal::ShortBuffer => 0,
-        Refusal::TailRiskMetric => 0,
         Refusal::WeightOutOfRange => 0,
         Refusal::NoTree => 0,
         Refusal::MalformedText => 0,
+        Refusal::MissingReturnsForTailRisk => 0,
+        Refusal::ConfidenceOutOfRange => 0,
     }
 }
 
@@ -100,10 +103,11 @@ pub fn assets(r: Refusal) -> usize
         Refusal::OverLimit => 0,
         Refusal::SliceLength => 0,
         Refusal::ShortBuffer => 0,
-        Refusal::TailRiskMetric => 0,
         Refusal::WeightOutOfRange => 0,
         Refusal::NoTree => 0,
         Refusal::MalformedText => 0,
+        Refusal::MissingReturnsForTailRisk => 0,
+        Refusal::ConfidenceOutOfRange => 0,
     }
 }
 
