@@ -29,7 +29,7 @@ fn at(xs: &[f64], w: usize, r: usize, c: usize) -> f64
 }
 
 // An asset number is above n - 1.
-fn any_outside(n: usize, assets: &[usize]) -> bool
+pub fn any_outside(n: usize, assets: &[usize]) -> bool
     ensures { λ r. ⌜ r ≡ outside n (now (assets .entry)) ⌝ }
 {
     let mut k = 0;

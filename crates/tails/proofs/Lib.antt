@@ -1,0 +1,4 @@
+pub mod Laws
+pub mod Known
+pub mod Outcomes
+pub mod Figures

@@ -1,0 +1,3 @@
+pub mod Tail
+pub mod Measures
+pub mod Steps
