@@ -26,6 +26,7 @@ use Rattle.tree.specs.Tree.{Tree, treeAt, leavesOf}
 use Rattle.tree.proofs.Order.{order-size, order-each, leaves-low}
 use Rattle.clusters.specs.Shares.{some}
 use Rattle.sharing.specs.declared.Metric.the-variants.{EqualWeighting}
+use Rattle.sharing.specs.Split.{Inputs}
 use Rattle.sharing.specs.Allot.{splits, sharesOf}
 use Rattle.equal.specs.Clusters.{Cluster, clusters, clusterAt}
 use Rattle.equal.specs.Equal.{weight, total, portion, ClusterShare, Only, EqualShares}
@@ -131,8 +132,8 @@ module _ (ws : List Float) (t : Tree) (c : Cluster) (f : Fits c) (g : Gets ws t 
 
 -- ---- the whole tree
 
-module _ (expected cov : List Float) (n k : ℕ) (rows : List ℕ) (some-asset : 1 ≤ n) (limit : n ≤ 64) (tree : isTree rows n ≡ true) (one-cluster : 1 ≤ k) (cut : k ≤ n)
-    (ws : List Float) (e : sharesOf EqualWeighting expected cov rows n k ≡ some ws) where
+module _ (x : Inputs) (cov : List Float) (n k : ℕ) (rows : List ℕ) (some-asset : 1 ≤ n) (limit : n ≤ 64) (tree : isTree rows n ≡ true) (one-cluster : 1 ≤ k) (cut : k ≤ n)
+    (ws : List Float) (e : sharesOf EqualWeighting x cov rows n k ≡ some ws) where
   abbrev top : Tree
   top = treeAt rows n (2 * n - 2)
 
@@ -167,14 +168,14 @@ module _ (expected cov : List Float) (n k : ℕ) (rows : List ℕ) (some-asset :
 
   size : length ws ≡ n
   unfolding sharesOf
-  size = allot-kept expected cov n k top (splits n k top) unit (zeros n) ws e .size ∙ length-replicate n pz
+  size = allot-kept x cov n k top (splits n k top) unit (zeros n) ws e .size ∙ length-replicate n pz
 
   fit : (j : ℕ) → j < k → Fits (clusterAt rows n k j)
   fit j lt = each-at (all-fit n k top (splits n k top) 0 fits) j (omega (arith, many))
 
   gets : (j : ℕ) → j < k → Gets ws top (clusterAt rows n k j)
   unfolding sharesOf halves
-  gets j lt = each-at (given expected cov n k top (splits n k top) 0 (zeros n) ws e at-most-once inside fits) j (omega (arith, many))
+  gets j lt = each-at (given x cov n k top (splits n k top) 0 (zeros n) ws e at-most-once inside fits) j (omega (arith, many))
 
   -- the units of an asset's weight, and of those of a cluster's assets
   abbrev u : ℕ → ℕ

@@ -34,7 +34,7 @@ use Rattle.sharing.specs.declared.Metric.the-variants.{EqualWeighting}
 use Rattle.sharing.specs.declared.Split.{Split}
 use Rattle.sharing.specs.declared.Splitting.{Splitting}
 use Rattle.sharing.specs.declared.Splitting.the-variants as splitting
-use Rattle.sharing.specs.Split.{bounded, splitBy, scored, bothOf, splitOf}
+use Rattle.sharing.specs.Split.{Inputs, bounded, splitBy, scored, bothOf, splitOf}
 use Rattle.sharing.specs.Allot.{splits, spreadOf, equalOf, insideOf, onward, allotted}
 use Rattle.equal.specs.Clusters.{Cluster, cut}
 use Rattle.equal.specs.Equal.{weight, portion}
@@ -65,10 +65,10 @@ all-same (risk.Refused r) u f h = refl
 all-same (risk.Of a) (risk.Refused r) f h = refl
 all-same (risk.Of a) (risk.Of b) f h = h a b
 
-halved : (expected cov : List Float) (n : ℕ) (a b : List ℕ) (s : Split) → splitOf EqualWeighting expected cov n a b ≡ splitting.By s → s .factor ≡ half
+halved : (x : Inputs) (cov : List Float) (n : ℕ) (a b : List ℕ) (s : Split) → splitOf EqualWeighting x cov n a b ≡ splitting.By s → s .factor ≡ half
 unfolding splitOf scored splitBy bounded clampOf finiteOf lt ofBits
-halved expected cov n a b s e =
-    sym (ap factorIn e) ∙ all-same (varianceAnswer cov n n a) (varianceAnswer cov n n b) (scored EqualWeighting expected cov n a b) (λ x y. refl)
+halved x cov n a b s e =
+    sym (ap factorIn e) ∙ all-same (varianceAnswer cov n n a) (varianceAnswer cov n n b) (scored EqualWeighting x cov n a b) (λ l r. refl)
 
 -- ---- how often an asset stands in a list
 
@@ -171,22 +171,22 @@ join r l t mid out once k p q =
     }) p)
     (each-map (λ c g. record { below = λ a i. omega (arith, count-append a (leaves l) (leaves t), g .below a i); gets = g .gets }) q)
 
-module _ (expected cov : List Float) (n k : ℕ) where
+module _ (x : Inputs) (cov : List Float) (n k : ℕ) where
   abbrev go : Tree → Float → List Float → Shares
-  go t w ws = allotted EqualWeighting expected cov n k t (splits n k t) w ws
+  go t w ws = allotted EqualWeighting x cov n k t (splits n k t) w ws
 
   -- both sides of a split get half its weight
   record Halved (l t : Tree) (w : Float) (ws out : List Float) : Type 0 where
     mid : List Float
-    left : allotted EqualWeighting expected cov n k l (splits n k l) (mul binary64 w half) ws ≡ some mid
-    right : allotted EqualWeighting expected cov n k t (splits n k t) (mul binary64 w half) mid ≡ some out
+    left : allotted EqualWeighting x cov n k l (splits n k l) (mul binary64 w half) ws ≡ some mid
+    right : allotted EqualWeighting x cov n k t (splits n k t) (mul binary64 w half) mid ≡ some out
 
-  both-halved : (r : ℕ) (l t : Tree) (w : Float) (ws out : List Float) → allotted EqualWeighting expected cov n k (fork r l t) true w ws ≡ some out → Halved l t w ws out
+  both-halved : (r : ℕ) (l t : Tree) (w : Float) (ws out : List Float) → allotted EqualWeighting x cov n k (fork r l t) true w ws ≡ some out → Halved l t w ws out
   unfolding allotted
   both-halved r l t w ws out e =
-      let p = split-some (splitOf EqualWeighting expected cov n (leaves l) (leaves t)) _ out e in
+      let p = split-some (splitOf EqualWeighting x cov n (leaves l) (leaves t)) _ out e in
       let f : Float = p .0 .factor in
-      let h : f ≡ half = halved expected cov n (leaves l) (leaves t) (p .0) (p .1) in
+      let h : f ≡ half = halved x cov n (leaves l) (leaves t) (p .0) (p .1) in
       let q = then-some (go l (mul binary64 w f) ws) _ out (p .2) in
       record {
         mid = q .0;
@@ -194,7 +194,7 @@ module _ (expected cov : List Float) (n k : ℕ) where
         right = subst (λ (x : Float). go t (mul binary64 w x) (q .0) ≡ some out) (ap (sub binary64 unit) h ∙ other-half) (q .2);
       }
 
-  pub allot-kept : (t : Tree) (b : Bool) (w : Float) (ws out : List Float) → allotted EqualWeighting expected cov n k t b w ws ≡ some out → Kept t ws out
+  pub allot-kept : (t : Tree) (b : Bool) (w : Float) (ws out : List Float) → allotted EqualWeighting x cov n k t b w ws ≡ some out → Kept t ws out
   unfolding allotted insideOf equalOf leaves
   allot-kept (leaf x) b w ws out e =
       rw (some-is (set ws x w) out e) (record { size = length-set ws x w; other = λ a z. getD-set-other ws x a w nan (λ q. not-here x a [] z (sym q)) })
@@ -211,7 +211,7 @@ module _ (expected cov : List Float) (n k : ℕ) where
       let v = mul binary64 w (oneOver (length ms)) in
       rw (some-is (spreadOf ms v ws) out e) (record { size = spread-length ms v ws; other = spread-other ms v ws })
 
-  pub given : (t : Tree) (b : Bool) (d : ℕ) (ws out : List Float) → allotted EqualWeighting expected cov n k t b (halves d) ws ≡ some out
+  pub given : (t : Tree) (b : Bool) (d : ℕ) (ws out : List Float) → allotted EqualWeighting x cov n k t b (halves d) ws ≡ some out
       → ((a : ℕ) → count a (leaves t) ≤ 1) → ((a : ℕ) → 1 ≤ count a (leaves t) → a < length ws) → d + length (leaves t) ≤ 64 → Each (Gets out t) (cut n k d t b)
   unfolding allotted insideOf leaves cut halves
   given (leaf x) b d ws out e once room h = rw (some-is (set ws x (halves d)) out e) (also (one-leaf x d ws room (omega arith)) none)

@@ -7,7 +7,7 @@ use mathlib.Core.Bool.{Bool, true, false, not, _&&_, _||_}
 use mathlib.Core.List.{List, [], _∷_, _++_}
 use native.Mathlib.Nat.{le-refl}
 use native.Mathlib.Omega.{arith}
-use borrow.Author.Tests.{ltb-false, le-ltb, eq-eqb, ne-eqb, eqb-true, eqb-false, not-false}
+use borrow.Author.Tests.{ltb-false, lt-ltb, le-ltb, eq-eqb, ne-eqb, eqb-true, eqb-false, not-false}
 use lib.Dec.{ltb, eqb}
 use lib.ListN.{length, set, take, drop, getD-replicate, length-set, length-replicate, length-append, length-drop}
 use lib.Seq.{length-take-le, ext-getD, getD-take}
@@ -15,16 +15,17 @@ use lib.Ieee.{Float, binary64, mul, sub}
 use Rattle.arithmetic.specs.Constants.{pz, unit}
 use Rattle.refusal.specs.Table.{Line, first, orElse}
 use Rattle.refusal.specs.declared.Refusal.{Refusal}
-use Rattle.refusal.specs.declared.Refusal.the-variants.{NoData, DimensionMismatch, MissingExpectedReturnsForSharpe, InvalidNumClusters, OverLimit, SliceLength, ShortBuffer, NoTree}
+use Rattle.refusal.specs.declared.Refusal.the-variants.{NoData, DimensionMismatch, MissingExpectedReturnsForSharpe, InvalidNumClusters, OverLimit, SliceLength, ShortBuffer, NoTree, MissingReturnsForTailRisk, ConfidenceOutOfRange}
 use Rattle.refusal.specs.declared.Outcome.{Outcome}
 use Rattle.refusal.specs.declared.Outcome.the-variants.{Done, Refused}
 use Rattle.refusal.proofs.Tables.{table, table-hit, table-pass, table-end, AllNo, none, first-append, first-done, first-refused, both-done}
 use Rattle.lent.specs.Grid.{zeros}
-use Rattle.lent.specs.Lent.{overLimit, otherLength, laid, answerOf}
+use Rattle.lent.specs.Lent.{least-scratch, overLimit, otherLength, laid, answerOf}
 use Rattle.lent.specs.declared.Answer.{Answer}
 use Rattle.lent.specs.declared.Answer.the-variants as answer
 use Rattle.lent.proofs.Laws.{square-in, drop-replicate}
 use Rattle.lent.proofs.Sizes.{over-cells, same-length, laid-refused}
+use Rattle.ordering.specs.Nearest.{noPart}
 use Rattle.tree.specs.Rows.{isTree}
 use Rattle.tree.specs.Tree.{Tree, leaf, fork, treeAt, leaves}
 use Rattle.clusters.specs.Shares.{Shares, some, told, isNone, weightsIn}
@@ -32,14 +33,14 @@ use Rattle.clusters.specs.Shares as shares
 use Rattle.clusters.specs.Clusters.{sharesOutcome}
 use Rattle.clusters.specs.Clusters as inverse
 use Rattle.sharing.specs.declared.Metric.{Metric}
-use Rattle.sharing.specs.declared.Metric.the-variants.{MinimumVariance, MinimumStandardDeviation, SharpeRatio, EqualWeighting}
+use Rattle.sharing.specs.declared.Metric.the-variants.{MinimumVariance, MinimumStandardDeviation, SharpeRatio, EqualWeighting, ExpectedShortfall, ConditionalDrawdownRisk}
 use Rattle.sharing.specs.declared.Split.{Split}
 use Rattle.sharing.specs.declared.Splitting.{Splitting}
 use Rattle.sharing.specs.declared.Splitting.the-variants as splitting
-use Rattle.sharing.specs.Split.{splitOf}
+use Rattle.sharing.specs.Split.{Inputs, splitOf}
 use Rattle.sharing.specs.Allot.{splits, spreadOf, equalOf, dealTo, ifDone, variedOf, insideOf, onward, allotted, allottedAt, sharesOf}
-use Rattle.sharing.specs.Down.{isSharpe, Call, callTable, downTable, downOutcome, downAnswer, downWeights}
-use Rattle.sharing.specs.Walk.{Below, Front, Down}
+use Rattle.sharing.specs.Down.{isSharpe, isTailRisk, tailLines, otherRows, Call, callTable, downTable, downOutcome, downAnswer, downWeights}
+use Rattle.sharing.specs.Walk.{Below, Front, Tailed, Blank, Down}
 
 -- ---- sharing keeps the number of weights
 
@@ -80,14 +81,16 @@ inside-keeps MinimumVariance cov n ms w ws = varied-keeps cov n ms w ws
 inside-keeps MinimumStandardDeviation cov n ms w ws = varied-keeps cov n ms w ws
 inside-keeps SharpeRatio cov n ms w ws = varied-keeps cov n ms w ws
 inside-keeps EqualWeighting cov n ms w ws = spread-length ms _ ws
+inside-keeps ExpectedShortfall cov n ms w ws = varied-keeps cov n ms w ws
+inside-keeps ConditionalDrawdownRisk cov n ms w ws = varied-keeps cov n ms w ws
 
-module _ (metric : Metric) (expected cov : List Float) (n k : ℕ) where
-  allot-keeps : (t : Tree) (b : Bool) (w : Float) (ws : List Float) (m : ℕ) → length ws ≡ m → Keeps (allotted metric expected cov n k t b w ws) m
+module _ (metric : Metric) (x : Inputs) (cov : List Float) (n k : ℕ) where
+  allot-keeps : (t : Tree) (b : Bool) (w : Float) (ws : List Float) (m : ℕ) → length ws ≡ m → Keeps (allotted metric x cov n k t b w ws) m
   unfolding allotted
   allot-keeps (leaf a) b w ws m e = simp length-set e
   allot-keeps (fork r l t) true w ws m e =
-      onward-keeps (splitOf metric expected cov n (leaves l) (leaves t)) _ m
-      (λ s. then-keeps (allotted metric expected cov n k l (splits n k l) (mul binary64 w (s .factor)) ws) _ m
+      onward-keeps (splitOf metric x cov n (leaves l) (leaves t)) _ m
+      (λ s. then-keeps (allotted metric x cov n k l (splits n k l) (mul binary64 w (s .factor)) ws) _ m
       (allot-keeps l (splits n k l) (mul binary64 w (s .factor)) ws m e)
       (λ mid q. allot-keeps t (splits n k t) (mul binary64 w (sub binary64 unit (s .factor))) mid m q))
   allot-keeps (fork r l t) false w ws m e = subst (λ (i : ℕ). Keeps (insideOf metric cov n (leaves (fork r l t)) w ws) i) e (inside-keeps metric cov n (leaves (fork r l t)) w ws)
@@ -97,14 +100,14 @@ unfolding isNone weightsIn
 kept-of shares.none m p e = absurd (let z : _≡_ {A = ℕ} 0 1 = cc in omega arith)
 kept-of (some ws) m p e = (refl, p)
 
-shares-keeps : (metric : Metric) (expected cov : List Float) (rows : List ℕ) (n k : ℕ) → Keeps (sharesOf metric expected cov rows n k) n
+shares-keeps : (metric : Metric) (x : Inputs) (cov : List Float) (rows : List ℕ) (n k : ℕ) → Keeps (sharesOf metric x cov rows n k) n
 unfolding sharesOf
-shares-keeps metric expected cov rows n k =
-    allot-keeps metric expected cov n k (treeAt rows n (2 * n - 2)) (splits n k (treeAt rows n (2 * n - 2))) unit (zeros n) n (length-replicate n pz)
+shares-keeps metric x cov rows n k =
+    allot-keeps metric x cov n k (treeAt rows n (2 * n - 2)) (splits n k (treeAt rows n (2 * n - 2))) unit (zeros n) n (length-replicate n pz)
 
-pub shares-length : (metric : Metric) (expected cov : List Float) (rows : List ℕ) (n k : ℕ) → isNone (sharesOf metric expected cov rows n k) ≡ false
-    → (sharesOf metric expected cov rows n k ≡ some (weightsIn (sharesOf metric expected cov rows n k))) × (length (weightsIn (sharesOf metric expected cov rows n k)) ≡ n)
-shares-length metric expected cov rows n k e = kept-of (sharesOf metric expected cov rows n k) n (shares-keeps metric expected cov rows n k) e
+pub shares-length : (metric : Metric) (x : Inputs) (cov : List Float) (rows : List ℕ) (n k : ℕ) → isNone (sharesOf metric x cov rows n k) ≡ false
+    → (sharesOf metric x cov rows n k ≡ some (weightsIn (sharesOf metric x cov rows n k))) × (length (weightsIn (sharesOf metric x cov rows n k)) ≡ n)
+shares-length metric x cov rows n k e = kept-of (sharesOf metric x cov rows n k) n (shares-keeps metric x cov rows n k) e
 
 -- ---- what a call of `share` told
 
@@ -122,8 +125,14 @@ laid-front n room part blank b l = rw (b, drop-replicate, l)
 
 -- ---- the tests
 
+-- what a tail-risk metric asks of w columns of returns, and of the confidence
+pub record Feeding (x : Inputs) (w n : ℕ) : Type 0 where
+  pub rows : 0 < x .return-rows
+  pub columns : w ≡ n
+  pub part : noPart (x .confidence) ≡ false
+
 -- what the call's lines find right
-pub record Right (q : Call) (room : ℕ) : Type 0 where
+pub record Right (q : Call) (room scratch : ℕ) : Type 0 where
   pub some : 1 ≤ q .assets
   pub most : q .assets ≤ 64
   pub height : q .covariance-rows ≡ q .assets
@@ -133,7 +142,11 @@ pub record Right (q : Call) (room : ℕ) : Type 0 where
   pub tree : isTree (q .rows) (q .assets) ≡ true
   pub least : 1 ≤ q .clusters
   pub cut : q .clusters ≤ q .assets
-  pub expects : isSharpe (q .metric) ≡ true → (q .expected-given ≡ true) × (length (q .expected) ≡ q .assets)
+  pub expects : isSharpe (q .metric) ≡ true → (q .expected-given ≡ true) × (length (q .inputs .expected) ≡ q .assets)
+  pub enough : least-scratch ≤ scratch
+  pub limits : overLimit (q .inputs .return-rows) (q .return-columns) ≡ false
+  pub returns : length (q .inputs .returns) ≡ q .inputs .return-rows * q .return-columns
+  pub feeds : isTailRisk (q .metric) ≡ true → Feeding (q .inputs) (q .return-columns) (q .assets)
 
 pub neither : (a b : Bool) → (a || b) ≡ false → (a ≡ false) × (b ≡ false)
 neither true b e = absurd (let z : _≡_ {A = ℕ} 0 1 = cc in omega arith)
@@ -151,36 +164,60 @@ expected-right : (b g : Bool) (len n : ℕ) → (b ≡ true → (g ≡ true) × 
 expected-right false g len n h = (refl, refl)
 expected-right true g len n h = (rw (h refl .0, eq-eqb len n (h refl .1)), rw (h refl .0))
 
+-- the same for rows of returns, and a confidence, under a tail-risk metric
+feeding-of : (b : Bool) (x : Inputs) (w n : ℕ) → (b && (ltb 0 (x .return-rows) && not (eqb w n))) ≡ false → (b && eqb (x .return-rows) 0) ≡ false → (b && noPart (x .confidence)) ≡ false → b ≡ true → Feeding x w n
+feeding-of false x w n a c d h = absurd (let z : _≡_ {A = ℕ} 0 1 = cc in omega arith)
+feeding-of true x w n a c d h =
+    let some-of : x .return-rows ≡ 0 → ⊥ = eqb-false (x .return-rows) 0 c in
+    let more : 0 < x .return-rows = omega arith in
+    record { rows = more; columns = same-number w n (rw (lt-ltb 0 (x .return-rows) more) at a); part = d }
+
+pub feeding : (m : Metric) (x : Inputs) (w n : ℕ) → otherRows m x w n ≡ false → (isTailRisk m && eqb (x .return-rows) 0) ≡ false → (isTailRisk m && noPart (x .confidence)) ≡ false → isTailRisk m ≡ true → Feeding x w n
+unfolding otherRows
+feeding m x w n a c d h = feeding-of (isTailRisk m) x w n a c d h
+
+fed-right : (b : Bool) (x : Inputs) (w n : ℕ) → (b ≡ true → Feeding x w n)
+    → ((b && (ltb 0 (x .return-rows) && not (eqb w n))) ≡ false) × ((b && eqb (x .return-rows) 0) ≡ false) × ((b && noPart (x .confidence)) ≡ false)
+fed-right false x w n h = (refl, refl, refl)
+fed-right true x w n h =
+    let f = h refl in
+    let more : 0 < x .return-rows = f .rows in
+    (rw (lt-ltb 0 (x .return-rows) more, eq-eqb w n (f .columns)), ne-eqb (x .return-rows) 0 (λ e. omega arith), f .part)
+
 all-no : (l : List Line) → AllNo l → first l ≡ Done
 unfolding first
 all-no [] p = refl
 all-no ((t, r) ∷ l) p = table-pass t r l (p .0) ∙ all-no l (p .1)
 
-module _ (q : Call) (room : ℕ) where
-  pub call-right : first (callTable q room) ≡ Done → Right q room
-  unfolding callTable
+module _ (q : Call) (room scratch : ℕ) where
+  pub call-right : first (callTable q room scratch) ≡ Done → Right q room scratch
+  unfolding callTable tailLines
   call-right e =
-      let a = none (callTable q room) e in
-      let s = neither _ _ (a .1 .1 .1 .1 .0) in
-      let k = neither _ _ (a .1 .1 .1 .1 .1 .1 .1 .1 .1 .0) in
+      let a = none (callTable q room scratch) e in
+      let s = neither _ _ (a .1 .1 .1 .1 .1 .1 .1 .0) in
+      let k = neither _ _ (a .1 .1 .1 .1 .1 .1 .1 .1 .1 .1 .1 .1 .1 .1 .1 .0) in
       let h = same-number (q .covariance-rows) (q .assets) (s .0) in
       let w = same-number (q .covariance-columns) (q .assets) (s .1) in
-      let some-of : q .assets ≡ 0 → ⊥ = eqb-false (q .assets) 0 (a .1 .1 .1 .1 .1 .1 .0) in
+      let some-of : q .assets ≡ 0 → ⊥ = eqb-false (q .assets) 0 (a .1 .1 .1 .1 .1 .1 .1 .1 .1 .1 .0) in
       let least-of : q .clusters ≡ 0 → ⊥ = eqb-false (q .clusters) 0 (k .0) in
       record {
         some = omega arith;
         most = ltb-false 64 (q .assets) (a .0);
         height = h;
         width = w;
-        cells = same-length (length (q .covariance)) (q .covariance-rows) (q .covariance-columns) (a .1 .1 .0) ∙ ap (λ (i : ℕ). i * q .covariance-columns) h ∙ ap (λ (j : ℕ). q .assets * j) w;
-        fits = ltb-false room (q .assets) (a .1 .1 .1 .0);
-        tree = not-false (isTree (q .rows) (q .assets)) (a .1 .1 .1 .1 .1 .1 .1 .0);
+        cells = same-length (length (q .covariance)) (q .covariance-rows) (q .covariance-columns) (a .1 .1 .1 .0) ∙ ap (λ (i : ℕ). i * q .covariance-columns) h ∙ ap (λ (j : ℕ). q .assets * j) w;
+        fits = ltb-false room (q .assets) (a .1 .1 .1 .1 .1 .0);
+        tree = not-false (isTree (q .rows) (q .assets)) (a .1 .1 .1 .1 .1 .1 .1 .1 .1 .1 .1 .0);
         least = omega arith;
         cut = ltb-false (q .assets) (q .clusters) (k .1);
-        expects = expecting (isSharpe (q .metric)) (q .expected-given) (length (q .expected)) (q .assets) (a .1 .1 .1 .1 .1 .0) (a .1 .1 .1 .1 .1 .1 .1 .1 .0);
+        expects = expecting (isSharpe (q .metric)) (q .expected-given) (length (q .inputs .expected)) (q .assets) (a .1 .1 .1 .1 .1 .1 .1 .1 .0) (a .1 .1 .1 .1 .1 .1 .1 .1 .1 .1 .1 .1 .0);
+        enough = ltb-false scratch 8192 (a .1 .1 .1 .1 .1 .1 .0);
+        limits = a .1 .1 .0;
+        returns = same-length (length (q .inputs .returns)) (q .inputs .return-rows) (q .return-columns) (a .1 .1 .1 .1 .0);
+        feeds = feeding (q .metric) (q .inputs) (q .return-columns) (q .assets) (a .1 .1 .1 .1 .1 .1 .1 .1 .1 .0) (a .1 .1 .1 .1 .1 .1 .1 .1 .1 .1 .1 .1 .1 .0) (a .1 .1 .1 .1 .1 .1 .1 .1 .1 .1 .1 .1 .1 .1 .0);
       }
 
-  module _ (p : Right q room) where
+  module _ (p : Right q room scratch) where
     small : overLimit (q .covariance-rows) (q .covariance-columns) ≡ false
     small =
         let s = square-in (q .assets) (p .most) in
@@ -193,87 +230,76 @@ module _ (q : Call) (room : ℕ) where
         let z : length (q .covariance) ≡ q .covariance-rows * q .covariance-columns = rw (p .height, p .width) (p .cells) in
         rw (eq-eqb (length (q .covariance)) (q .covariance-rows * q .covariance-columns) z)
 
-    pub right-passes : first (callTable q room) ≡ Done
-    unfolding callTable
+    whole-returns : otherLength (length (q .inputs .returns)) (q .inputs .return-rows) (q .return-columns) ≡ false
+    unfolding otherLength
+    whole-returns = rw (eq-eqb (length (q .inputs .returns)) (q .inputs .return-rows * q .return-columns) (p .returns))
+
+    pub right-passes : first (callTable q room scratch) ≡ Done
+    unfolding callTable tailLines otherRows
     right-passes =
-        let x = expected-right (isSharpe (q .metric)) (q .expected-given) (length (q .expected)) (q .assets) (p .expects) in
+        let x = expected-right (isSharpe (q .metric)) (q .expected-given) (length (q .inputs .expected)) (q .assets) (p .expects) in
+        let f = fed-right (isTailRisk (q .metric)) (q .inputs) (q .return-columns) (q .assets) (p .feeds) in
         let one : 1 ≤ q .assets = p .some in
         let two : 1 ≤ q .clusters = p .least in
-        all-no (callTable q room) (
-          le-ltb 64 (q .assets) (p .most),
-          (
-            small,
-            (
-              whole,
-              (
-                le-ltb room (q .assets) (p .fits),
-                (
-                  rw (eq-eqb (q .covariance-rows) (q .assets) (p .height), eq-eqb (q .covariance-columns) (q .assets) (p .width)),
-                  (
-                    x .0,
-                    (
-                      ne-eqb (q .assets) 0 (λ e. omega arith),
-                      (
-                        rw (p .tree),
-                        (
-                          x .1,
-                          (rw (ne-eqb (q .clusters) 0 (λ e. omega arith), le-ltb (q .assets) (q .clusters) (p .cut)), tt),
-                        ),
-                      ),
-                    ),
-                  ),
-                ),
-              ),
-            ),
-          ),
-        )
+        all-no (callTable q room scratch) (le-ltb 64 (q .assets) (p .most), (small, (p .limits, (whole, (whole-returns, (le-ltb room (q .assets) (p .fits), (le-ltb scratch 8192 (p .enough), (rw (eq-eqb (q .covariance-rows) (q .assets) (p .height), eq-eqb (q .covariance-columns) (q .assets) (p .width)), (x .0, (f .0, (ne-eqb (q .assets) 0 (λ e. omega arith), (rw (p .tree), (x .1, (f .1, (f .2, (rw (ne-eqb (q .clusters) 0 (λ e. omega arith), le-ltb (q .assets) (q .clusters) (p .cut)), tt))))))))))))))))
+
+    -- what the two measures ask
+    pub right-tailed : isTailRisk (q .metric) ≡ true → Tailed (q .inputs .returns) (q .inputs .return-rows) (q .inputs .confidence) (q .assets)
+    right-tailed h =
+        let f = p .feeds h in
+        record {
+          rows = f .rows;
+          limits = subst (λ (i : ℕ). overLimit (q .inputs .return-rows) i ≡ false) (f .columns) (p .limits);
+          cells = p .returns ∙ ap (λ (i : ℕ). q .inputs .return-rows * i) (f .columns);
+          part = f .part;
+        }
 
   -- ---- the recursion's own line, and the answer
 
   abbrev given : Shares
-  given = sharesOf (q .metric) (q .expected) (q .covariance) (q .rows) (q .assets) (q .clusters)
+  given = sharesOf (q .metric) (q .inputs) (q .covariance) (q .rows) (q .assets) (q .clusters)
 
-  pub down-as-shares : Right q room → downOutcome q room ≡ first ((isNone (sharesOf (q .metric) (q .expected) (q .covariance) (q .rows) (q .assets) (q .clusters)), NoData) ∷ [])
+  pub down-as-shares : Right q room scratch → downOutcome q room scratch ≡ first ((isNone (sharesOf (q .metric) (q .inputs) (q .covariance) (q .rows) (q .assets) (q .clusters)), NoData) ∷ [])
   unfolding downOutcome downTable
-  down-as-shares p = first-done (callTable q room) ((isNone given, NoData) ∷ []) (right-passes p)
+  down-as-shares p = first-done (callTable q room scratch) ((isNone given, NoData) ∷ []) (right-passes p)
 
   pub record Accepted : Type 0 where
-    pub right : Right q room
-    pub weights : sharesOf (q .metric) (q .expected) (q .covariance) (q .rows) (q .assets) (q .clusters) ≡ some (weightsIn (sharesOf (q .metric) (q .expected) (q .covariance) (q .rows) (q .assets) (q .clusters)))
-    pub size : length (weightsIn (sharesOf (q .metric) (q .expected) (q .covariance) (q .rows) (q .assets) (q .clusters))) ≡ q .assets
+    pub right : Right q room scratch
+    pub weights : sharesOf (q .metric) (q .inputs) (q .covariance) (q .rows) (q .assets) (q .clusters) ≡ some (weightsIn (sharesOf (q .metric) (q .inputs) (q .covariance) (q .rows) (q .assets) (q .clusters)))
+    pub size : length (weightsIn (sharesOf (q .metric) (q .inputs) (q .covariance) (q .rows) (q .assets) (q .clusters))) ≡ q .assets
 
-  pub down-accepted : downOutcome q room ≡ Done → Accepted
+  pub down-accepted : downOutcome q room scratch ≡ Done → Accepted
   unfolding downOutcome downTable
   down-accepted e =
-      let d = both-done (first (callTable q room)) (first ((isNone given, NoData) ∷ [])) (sym (first-append (callTable q room) ((isNone given, NoData) ∷ [])) ∙ e) in
-      let l = shares-length (q .metric) (q .expected) (q .covariance) (q .rows) (q .assets) (q .clusters) (none ((isNone given, NoData) ∷ []) (d .1) .0) in
+      let d = both-done (first (callTable q room scratch)) (first ((isNone given, NoData) ∷ [])) (sym (first-append (callTable q room scratch) ((isNone given, NoData) ∷ [])) ∙ e) in
+      let l = shares-length (q .metric) (q .inputs) (q .covariance) (q .rows) (q .assets) (q .clusters) (none ((isNone given, NoData) ∷ []) (d .1) .0) in
       record { right = call-right (d .0); weights = l .0; size = l .1 }
 
-  answered-as : (said o : Outcome) (a : Answer) (out : List Float) → downOutcome q room ≡ o → said ≡ o → a ≡ answerOf said 1 (q .assets) → out ≡ laid pz o room (weightsIn given) → (a ≡ downAnswer q room) × (out ≡ downWeights q room)
+  answered-as : (said o : Outcome) (a : Answer) (out : List Float) → downOutcome q room scratch ≡ o → said ≡ o → a ≡ answerOf said 1 (q .assets) → out ≡ laid pz o room (weightsIn given) → (a ≡ downAnswer q room scratch) × (out ≡ downWeights q room scratch)
   unfolding downAnswer downWeights
   answered-as said o a out d s e z = (rw (d, ← s) e, rw d z)
 
-  module _ (said : Outcome) (e : said ≡ first (callTable q room)) where
+  module _ (said : Outcome) (e : said ≡ first (callTable q room scratch)) where
     -- before anything was shared out
-    pub down-refused : (r : Refusal) (a : Answer) (out : List Float) → said ≡ Refused r → a ≡ answerOf said 1 (q .assets) → out ≡ zeros room → (a ≡ downAnswer q room) × (out ≡ downWeights q room)
+    pub down-refused : (r : Refusal) (a : Answer) (out : List Float) → said ≡ Refused r → a ≡ answerOf said 1 (q .assets) → out ≡ zeros room → (a ≡ downAnswer q room scratch) × (out ≡ downWeights q room scratch)
     unfolding downOutcome downTable
     down-refused r a out h g z =
-        answered-as said (Refused r) a out (first-refused (callTable q room) ((isNone given, NoData) ∷ []) r (sym e ∙ h)) h g (z ∙ laid-refused pz (Refused r) r room (weightsIn given) refl)
+        answered-as said (Refused r) a out (first-refused (callTable q room scratch) ((isNone given, NoData) ∷ []) r (sym e ∙ h)) h g (z ∙ laid-refused pz (Refused r) r room (weightsIn given) refl)
 
     module _ (h : said ≡ Done) where
-      pub said-right : Right q room
+      pub said-right : Right q room scratch
       said-right = call-right (sym e ∙ h)
 
       -- sharing refused, and the buffer was cleared
-      pub down-none : (t : Bool) (part out : List Float) (len : ℕ) → told t part ≡ sharesOf (q .metric) (q .expected) (q .covariance) (q .rows) (q .assets) (q .clusters) → t ≡ false → out ≡ zeros len → len ≡ room
-          → (answer.Refused NoData ≡ downAnswer q room) × (out ≡ downWeights q room)
+      pub down-none : (t : Bool) (part out : List Float) (len : ℕ) → told t part ≡ sharesOf (q .metric) (q .inputs) (q .covariance) (q .rows) (q .assets) (q .clusters) → t ≡ false → out ≡ zeros len → len ≡ room
+          → (answer.Refused NoData ≡ downAnswer q room scratch) × (out ≡ downWeights q room scratch)
       unfolding answerOf
       down-none t part out len g f z l =
           answered-as (Refused NoData) (Refused NoData) (answer.Refused NoData) out (down-as-shares said-right ∙ table-hit _ _ _ (told-none t part given g f)) refl refl (z ∙ ap zeros l ∙ laid-refused pz (Refused NoData) NoData room (weightsIn given) refl)
 
       -- weights in the front of a cleared buffer
-      pub down-some : (t : Bool) (part blank out : List Float) (a : Answer) → told t part ≡ sharesOf (q .metric) (q .expected) (q .covariance) (q .rows) (q .assets) (q .clusters) → t ≡ true
-          → a ≡ answerOf said 1 (q .assets) → blank ≡ zeros room → out ≡ part ++ drop (q .assets) blank → length part ≡ q .assets → (a ≡ downAnswer q room) × (out ≡ downWeights q room)
+      pub down-some : (t : Bool) (part blank out : List Float) (a : Answer) → told t part ≡ sharesOf (q .metric) (q .inputs) (q .covariance) (q .rows) (q .assets) (q .clusters) → t ≡ true
+          → a ≡ answerOf said 1 (q .assets) → blank ≡ zeros room → out ≡ part ++ drop (q .assets) blank → length part ≡ q .assets → (a ≡ downAnswer q room scratch) × (out ≡ downWeights q room scratch)
       down-some t part blank out a g f k b o l =
           let w = told-some t part given g f in
           answered-as said Done a out (down-as-shares said-right ∙ table-pass _ _ _ (w .0) ∙ table-end) h k
@@ -291,10 +317,10 @@ take-zeros n m h =
 pub front-zeros : (blank : List Float) (n room : ℕ) → blank ≡ zeros room → n ≤ room → take n blank ≡ zeros n
 front-zeros blank n room e h = rw e (take-zeros n room h)
 
-pub root : (q : Call) (room : ℕ) → Right q room → Below (q .rows) (q .assets) (2 * q .assets - 2)
-root q room p = record { on = record { some = p .some; tree = p .tree; node = le-refl (2 * q .assets - 2) }; most = p .most }
+pub root : (q : Call) (room scratch : ℕ) → Right q room scratch → Below (q .rows) (q .assets) (2 * q .assets - 2)
+root q room scratch p = record { on = record { some = p .some; tree = p .tree; node = le-refl (2 * q .assets - 2) }; most = p .most }
 
-module _ (q : Call) (room : ℕ) (p : Right q room) (blank : List Float) (e : blank ≡ zeros room) where
+module _ (q : Call) (room scratch : ℕ) (p : Right q room scratch) (blank : List Float) (e : blank ≡ zeros room) where
   blank-length : length blank ≡ room
   blank-length = ap length e ∙ length-replicate room pz
 
@@ -305,20 +331,20 @@ module _ (q : Call) (room : ℕ) (p : Right q room) (blank : List Float) (e : bl
   front-length = length-take-le (q .assets) blank front-fits
 
   pub down-start : {order : List ℕ} {m : ℕ} → Front (q .rows) (q .assets) (2 * q .assets - 2) order m
-      → Down (q .metric) (q .expected) (q .rows) (q .assets) (q .clusters) (2 * q .assets - 2) (take m order) (take (q .assets) blank)
+      → Down (q .metric) (q .inputs) (q .rows) (q .assets) (q .clusters) (2 * q .assets - 2) (take m order) (take (q .assets) blank)
   unfolding isSharpe
   down-start f = record {
-    node = root q room p;
+    node = root q room scratch p;
     list = f .list;
     cut = p .cut;
     each = omega (arith, front-length);
-    expects = λ h. p .expects (ap isSharpe h) .1;
+    fed = record { expects = λ h. p .expects (ap isSharpe h) .1; tailed = right-tailed q room scratch p };
   }
 
-  pub down-shared : (s : Shares) → s ≡ allottedAt (q .metric) (q .expected) (q .covariance) (q .rows) (q .assets) (q .clusters) (2 * q .assets - 2) unit (take (q .assets) blank)
-      → s ≡ sharesOf (q .metric) (q .expected) (q .covariance) (q .rows) (q .assets) (q .clusters)
+  pub down-shared : (s : Shares) → s ≡ allottedAt (q .metric) (q .inputs) (q .covariance) (q .rows) (q .assets) (q .clusters) (2 * q .assets - 2) unit (take (q .assets) blank)
+      → s ≡ sharesOf (q .metric) (q .inputs) (q .covariance) (q .rows) (q .assets) (q .clusters)
   unfolding sharesOf
-  down-shared s h = h ∙ ap (allottedAt (q .metric) (q .expected) (q .covariance) (q .rows) (q .assets) (q .clusters) (2 * q .assets - 2) unit) (front-zeros blank (q .assets) room e (p .fits))
+  down-shared s h = h ∙ ap (allottedAt (q .metric) (q .inputs) (q .covariance) (q .rows) (q .assets) (q .clusters) (2 * q .assets - 2) unit) (front-zeros blank (q .assets) room e (p .fits))
 
   pub part-length : (part : List Float) → length part ≡ length (take (q .assets) blank) → length part ≡ q .assets
   part-length part h = h ∙ front-length
@@ -326,30 +352,50 @@ module _ (q : Call) (room : ℕ) (p : Right q room) (blank : List Float) (e : bl
   pub whole-length : (part : List Float) → length part ≡ length (take (q .assets) blank) → length (part ++ drop (q .assets) blank) ≡ room
   whole-length part h = simp (length-append, length-drop) (omega (arith, part-length part h, blank-length, p .fits))
 
+-- and scratch that was cleared
+pub cleared-blank : {after : List Float} (m : ℕ) → least-scratch ≤ m → after ≡ zeros m → Blank after
+cleared-blank {after = after} m h e =
+    let l : length after ≡ m = ap length e ∙ length-replicate m pz in
+    record { enough = omega arith; zero = e ∙ ap zeros (sym l) }
+
 -- ---- the lines as `judge` has them, the last one first
 
-module _ (q : Call) (room : ℕ) where
-  pub judge-said : (sharpe missing wrong unexpected other no-count tree misfit big : Bool) (a b c d e f g h i j : Outcome)
+module _ (q : Call) (room scratch : ℕ) where
+  pub judge-said : (sharpe tail missing wrong unexpected other present other-rows no-rows off no-part no-count tree ragged misfit many big : Bool) (o1 o2 o3 o4 o5 o6 o7 o8 o9 o10 o11 o12 o13 o14 o15 o16 : Outcome)
       → sharpe ≡ isSharpe (q .metric)
+      → tail ≡ isTailRisk (q .metric)
       → missing ≡ (sharpe && not (q .expected-given))
-      → wrong ≡ (q .expected-given && not (eqb (length (q .expected)) (q .assets)))
+      → wrong ≡ (q .expected-given && not (eqb (length (q .inputs .expected)) (q .assets)))
       → unexpected ≡ (sharpe && wrong)
       → other ≡ (not (eqb (q .covariance-rows) (q .assets)) || not (eqb (q .covariance-columns) (q .assets)))
+      → present ≡ (ltb 0 (q .inputs .return-rows) && not (eqb (q .return-columns) (q .assets)))
+      → other-rows ≡ (tail && present)
+      → no-rows ≡ (tail && eqb (q .inputs .return-rows) 0)
+      → off ≡ noPart (q .inputs .confidence)
+      → no-part ≡ (tail && off)
       → no-count ≡ (eqb (q .clusters) 0 || ltb (q .assets) (q .clusters))
       → tree ≡ isTree (q .rows) (q .assets)
+      → ragged ≡ otherLength (length (q .inputs .returns)) (q .inputs .return-rows) (q .return-columns)
       → misfit ≡ otherLength (length (q .covariance)) (q .covariance-rows) (q .covariance-columns)
+      → many ≡ overLimit (q .inputs .return-rows) (q .return-columns)
       → big ≡ overLimit (q .covariance-rows) (q .covariance-columns)
-      → a ≡ orElse no-count (InvalidNumClusters (q .clusters) (q .assets)) Done
-      → b ≡ orElse missing MissingExpectedReturnsForSharpe a
-      → c ≡ orElse (not tree) NoTree b
-      → d ≡ orElse (eqb (q .assets) 0) NoData c
-      → e ≡ orElse unexpected DimensionMismatch d
-      → f ≡ orElse other DimensionMismatch e
-      → g ≡ orElse (ltb room (q .assets)) ShortBuffer f
-      → h ≡ orElse misfit SliceLength g
-      → i ≡ orElse big OverLimit h
-      → j ≡ orElse (ltb 64 (q .assets)) OverLimit i
-      → j ≡ first (callTable q room)
-  unfolding callTable
-  judge-said sharpe missing wrong unexpected other no-count tree misfit big a b c d e f g h i j p1 p2 p3 p4 p5 p6 p7 p8 p9 l1 l2 l3 l4 l5 l6 l7 l8 l9 l10 =
-      simp (table, table-end) (rw (l10, l9, l8, l7, l6, l5, l4, l3, l2, l1, p9, p8, p7, p6, p5, p4, p3, p2, p1))
+      → o1 ≡ orElse no-count (InvalidNumClusters (q .clusters) (q .assets)) Done
+      → o2 ≡ orElse no-part ConfidenceOutOfRange o1
+      → o3 ≡ orElse no-rows MissingReturnsForTailRisk o2
+      → o4 ≡ orElse missing MissingExpectedReturnsForSharpe o3
+      → o5 ≡ orElse (not tree) NoTree o4
+      → o6 ≡ orElse (eqb (q .assets) 0) NoData o5
+      → o7 ≡ orElse other-rows DimensionMismatch o6
+      → o8 ≡ orElse unexpected DimensionMismatch o7
+      → o9 ≡ orElse other DimensionMismatch o8
+      → o10 ≡ orElse (ltb scratch 8192) ShortBuffer o9
+      → o11 ≡ orElse (ltb room (q .assets)) ShortBuffer o10
+      → o12 ≡ orElse ragged SliceLength o11
+      → o13 ≡ orElse misfit SliceLength o12
+      → o14 ≡ orElse many OverLimit o13
+      → o15 ≡ orElse big OverLimit o14
+      → o16 ≡ orElse (ltb 64 (q .assets)) OverLimit o15
+      → o16 ≡ first (callTable q room scratch)
+  unfolding callTable tailLines otherRows
+  judge-said sharpe tail missing wrong unexpected other present other-rows no-rows off no-part no-count tree ragged misfit many big o1 o2 o3 o4 o5 o6 o7 o8 o9 o10 o11 o12 o13 o14 o15 o16 p1 p2 p3 p4 p5 p6 p7 p8 p9 p10 p11 p12 p13 p14 p15 p16 p17 l1 l2 l3 l4 l5 l6 l7 l8 l9 l10 l11 l12 l13 l14 l15 l16 =
+      simp (table, table-end) (rw (l16, l15, l14, l13, l12, l11, l10, l9, l8, l7, l6, l5, l4, l3, l2, l1, p17, p16, p15, p14, p13, p12, p11, p10, p9, p8, p7, p6, p5, p4, p3, p2, p1))

@@ -5,8 +5,8 @@ use mathlib.Core.List.{List, _++_}
 use native.Mathlib.Nat.{le-refl, le-antisymm}
 use native.Mathlib.Numerals.{add-one}
 use native.Mathlib.Omega.{arith}
-use lib.ListN.{length, getD, set, drop, drop-of-length-le}
-use lib.Seq.{drop-cons, take-at}
+use lib.ListN.{length, getD, set, take, drop, drop-of-length-le, replicate-append-replicate}
+use lib.Seq.{drop-cons, take-at, length-take-le}
 use lib.Ieee.{Float, nan, binary64, mul}
 use Rattle.arithmetic.specs.Constants.{pz}
 use Rattle.refusal.specs.declared.Refusal.{Refusal}
@@ -15,23 +15,27 @@ use Rattle.refusal.specs.declared.Outcome.the-variants.{Done, Refused}
 use Rattle.lent.specs.Grid.{zeros, noughts, over}
 use Rattle.lent.specs.Lent.{answerOf}
 use Rattle.lent.specs.declared.Answer.the-variants as answer
-use Rattle.lent.proofs.Laws.{getD-over}
-use Rattle.lent.proofs.Sizes.{laid-done}
+use Rattle.lent.proofs.Laws.{getD-over, drop-replicate}
+use Rattle.lent.proofs.Sizes.{laid-done, within-limit}
 use Rattle.tree.specs.Tree.{leavesOf}
 use Rattle.tree.specs.Order.{orderAnswer, orderOf}
 use Rattle.tree.proofs.Order.{leaves-few, leaves-low}
 use Rattle.tree.proofs.Answer.{Ordered, order-answered, order-laid}
 use Rattle.clusters.specs.Clusters.{nth, shares, sharesOutcome, sharesAnswer, sharesLaid, varianceAnswer, expectation, ratio, ratioOf, sharpeAnswer}
 use Rattle.clusters.specs.Shares.{none, some}
+use Rattle.clusters.specs.declared.Risk.{Risk}
 use Rattle.clusters.specs.declared.Risk.the-variants as risk
 use Rattle.clusters.proofs.Laws.{length-shares}
 use Rattle.clusters.proofs.Sharing.{variance-outcome, variance-value, shares-as-variance, sharpe-as-variance}
+use Rattle.tails.specs.Tail.{shortfallOf, drawdownOf}
+use Rattle.tails.specs.Measures.{call, shortfallAnswer, drawdownAnswer}
+use Rattle.tails.proofs.Known.{shortfall-known, drawdown-known}
 use Rattle.sharing.specs.declared.Metric.{Metric}
 use Rattle.sharing.specs.declared.Split.{Split}
 use Rattle.sharing.specs.declared.Splitting.the-variants as splitting
-use Rattle.sharing.specs.Split.{scored, splitOf}
+use Rattle.sharing.specs.Split.{Inputs, scored, splitOf}
 use Rattle.sharing.specs.Allot.{spreadOf, dealTo, variedOf}
-use Rattle.sharing.specs.Walk.{Below, Front, Dealt}
+use Rattle.sharing.specs.Walk.{Below, Front, Dealt, Tailed, Blank}
 
 -- ---- the ratio of a side that has a variance is not refused
 
@@ -46,21 +50,64 @@ module _ (expected cov : List Float) (n : ℕ) (side : List ℕ) (v : Float) (h 
   pub ratio-not : {A : Type 0} (r : Refusal) → sharpeAnswer expected cov n n side ≡ risk.Refused r → A
   ratio-not r q = let k = sharpe-known in absurd (let z : _≡_ {A = ℕ} 0 1 = cc in omega arith)
 
+-- ---- so are the two measures, where the rows of returns fit
+
+pub same-risk : {a : Risk} {x y : Float} → a ≡ risk.Of y → a ≡ risk.Of x → x ≡ y
+same-risk e q = cc
+
+pub risk-never : {A : Type 0} {a : Risk} {y : Float} {r : Refusal} → a ≡ risk.Of y → a ≡ risk.Refused r → A
+risk-never e q = absurd (let z : _≡_ {A = ℕ} 0 1 = cc in omega arith)
+
+module _ {returns : List Float} {h : ℕ} {q : Float} {n : ℕ} (p : Tailed returns h q n) {scratch : List Float} (b : Blank scratch) where
+  -- the series takes the front of the scratch
+  pub series-few : h ≤ 4096
+  series-few = within-limit h n (p .limits) .0
+
+  pub series-fits : h + 1 ≤ length scratch
+  series-fits = omega (arith, series-few, b .enough)
+
+  pub series-length : length (take (h + 1) scratch) ≡ h + 1
+  series-length = length-take-le _ _ series-fits
+
+  -- scratch whose front was zero and is zero again is as it was
+  pub blank-again : {part : List Float} → part ≡ zeros (length (take (h + 1) scratch)) → part ++ drop (h + 1) scratch ≡ scratch
+  blank-again e =
+      let g : h + 1 + (length scratch - (h + 1)) ≡ length scratch = omega (arith, series-fits) in
+      ap (λ (l : List Float). l ++ drop (h + 1) scratch) (e ∙ ap zeros series-length)
+      ∙ ap (λ (l : List Float). zeros (h + 1) ++ drop (h + 1) l) (b .zero)
+      ∙ ap (λ (l : List Float). zeros (h + 1) ++ l) (drop-replicate (h + 1) (length scratch) pz)
+      ∙ replicate-append-replicate (h + 1) (length scratch - (h + 1)) pz
+      ∙ ap zeros g
+      ∙ sym (b .zero)
+
+module _ {returns : List Float} {h : ℕ} {q : Float} {n : ℕ} (p : Tailed returns h q n) (cov : List Float) (side : List ℕ) {v : Float} (e : varianceAnswer cov n n side ≡ risk.Of v) {scratch : List Float} (b : Blank scratch) where
+  roomy : h + 1 ≤ length (take (h + 1) scratch)
+  roomy = omega (arith, series-length p b)
+
+  pub shortfall-answered : shortfallAnswer (call returns h n cov n n side q (length (take (h + 1) scratch))) ≡ risk.Of (shortfallOf returns h cov n side q)
+  shortfall-answered = shortfall-known returns h cov n side q (length (take (h + 1) scratch)) v (p .cells) (p .limits) (p .rows) (p .part) roomy e
+
+  pub drawdown-answered : drawdownAnswer (call returns h n cov n n side q (length (take (h + 1) scratch))) ≡ risk.Of (drawdownOf returns h cov n side q)
+  drawdown-answered = drawdown-known returns h cov n side q (length (take (h + 1) scratch)) v (p .cells) (p .limits) (p .rows) (p .part) roomy e
+
+pub blank-still : {scratch after : List Float} → Blank scratch → after ≡ scratch → Blank after
+blank-still b e = rw e b
+
 -- ---- the split of two sides
 
-module _ (metric : Metric) (expected cov : List Float) (n : ℕ) (a b : List ℕ) where
-  pub left-none : (r : Refusal) → varianceAnswer cov n n a ≡ risk.Refused r → splitting.Refused r ≡ splitOf metric expected cov n a b
+module _ (metric : Metric) (x : Inputs) (cov : List Float) (n : ℕ) (a b : List ℕ) where
+  pub left-none : (r : Refusal) → varianceAnswer cov n n a ≡ risk.Refused r → splitting.Refused r ≡ splitOf metric x cov n a b
   unfolding splitOf
   left-none r e = rw e
 
-  pub right-none : (x : Float) (r : Refusal) → varianceAnswer cov n n a ≡ risk.Of x → varianceAnswer cov n n b ≡ risk.Refused r → splitting.Refused r ≡ splitOf metric expected cov n a b
+  pub right-none : (l : Float) (r : Refusal) → varianceAnswer cov n n a ≡ risk.Of l → varianceAnswer cov n n b ≡ risk.Refused r → splitting.Refused r ≡ splitOf metric x cov n a b
   unfolding splitOf
-  right-none x r e h = rw (e, h)
+  right-none l r e h = rw (e, h)
 
-  pub both-fine : (x y : Float) (s : Split) → varianceAnswer cov n n a ≡ risk.Of x → varianceAnswer cov n n b ≡ risk.Of y → s ≡ scored metric expected cov n a b x y
-      → splitting.By s ≡ splitOf metric expected cov n a b
+  pub both-fine : (l r : Float) (s : Split) → varianceAnswer cov n n a ≡ risk.Of l → varianceAnswer cov n n b ≡ risk.Of r → s ≡ scored metric x cov n a b l r
+      → splitting.By s ≡ splitOf metric x cov n a b
   unfolding splitOf
-  both-fine x y s e h q = rw (e, h, q)
+  both-fine l r s e h q = rw (e, h, q)
 
 -- ---- the leaves of a node, in a buffer of 64
 

@@ -18,7 +18,7 @@ use Rattle.sharing.specs.declared.Metric.{Metric}
 use Rattle.sharing.specs.declared.Split.{Split}
 use Rattle.sharing.specs.declared.Splitting.{Splitting}
 use Rattle.sharing.specs.declared.Splitting.the-variants as splitting
-use Rattle.sharing.specs.Split.{splitOf}
+use Rattle.sharing.specs.Split.{Inputs, splitOf}
 use Rattle.sharing.specs.Allot.{insideOf, onward, allotted, allottedAt}
 use Rattle.sharing.specs.Walk.{Below, Dealt, Down}
 use Rattle.sharing.proofs.Laws.{fits-64, leaves-dealt}
@@ -40,7 +40,7 @@ module _ {rows : List ℕ} {n v : ℕ} (p : Below rows n v) (ge : n ≤ v) where
 
 -- ---- what the two calls ask: the first l of the members are the left child's leaves, and the rest the right child's
 
-module _ {metric : Metric} {expected : List Float} {rows : List ℕ} {n k v : ℕ} {ms : List ℕ} {ws : List Float} (p : Down metric expected rows n k v ms ws) where
+module _ {metric : Metric} {x : Inputs} {rows : List ℕ} {n k v : ℕ} {ms : List ℕ} {ws : List Float} (p : Down metric x rows n k v ms ws) where
   pub members-dealt : Dealt ms (length ws)
   members-dealt = rw (p .list) (leaves-dealt (p .node) (length ws) (p .each))
 
@@ -63,42 +63,42 @@ module _ {metric : Metric} {expected : List Float} {rows : List ℕ} {n k v : �
         ∙ ap (drop l) joined
         ∙ drop-at (leavesOf rows n (left rows (v - n))) (leavesOf rows n (right rows (v - n))) l (sym e)
 
-    pub down-left : Down metric expected rows n k (left rows (v - n)) (take l ms) ws
-    down-left = record { node = below-left (p .node) ge; list = left-part; cut = p .cut; each = p .each; expects = p .expects }
+    pub down-left : Down metric x rows n k (left rows (v - n)) (take l ms) ws
+    down-left = record { node = below-left (p .node) ge; list = left-part; cut = p .cut; each = p .each; fed = p .fed }
 
-    pub down-right : {mid : List Float} → length mid ≡ length ws → Down metric expected rows n k (right rows (v - n)) (take (length ms - l) (drop l ms)) mid
-    down-right h = record { node = below-right (p .node) ge; list = right-part; cut = p .cut; each = omega (arith, p .each); expects = p .expects }
+    pub down-right : {mid : List Float} → length mid ≡ length ws → Down metric x rows n k (right rows (v - n)) (take (length ms - l) (drop l ms)) mid
+    down-right h = record { node = below-right (p .node) ge; list = right-part; cut = p .cut; each = omega (arith, p .each); fed = p .fed }
 
 -- ---- what they give
 
-module _ {metric : Metric} {expected : List Float} {rows : List ℕ} {n k v : ℕ} {ms : List ℕ} {ws : List Float} (p : Down metric expected rows n k v ms ws) (cov : List Float) (w : Float) where
-  pub allot-leaf : v < n → allottedAt metric expected cov rows n k v w ws ≡ some (set ws v w)
+module _ {metric : Metric} {x : Inputs} {rows : List ℕ} {n k v : ℕ} {ms : List ℕ} {ws : List Float} (p : Down metric x rows n k v ms ws) (cov : List Float) (w : Float) where
+  pub allot-leaf : v < n → allottedAt metric x cov rows n k v w ws ≡ some (set ws v w)
   unfolding allotted
   allot-leaf h = rw (tree-leaf rows n v h)
 
   module _ (ge : n ≤ v) where
-    pub allot-cut : {o : Shares} → v - n + k < n → o ≡ insideOf metric cov n ms w ws → o ≡ allottedAt metric expected cov rows n k v w ws
+    pub allot-cut : {o : Shares} → v - n + k < n → o ≡ insideOf metric cov n ms w ws → o ≡ allottedAt metric x cov rows n k v w ws
     unfolding allotted
     allot-cut h all = rw (tree-on (p .node .on) ge, lt-leb n (v - n + k) h) (rw (p .list, tree-on (p .node .on) ge) at all)
 
-    module _ (h : n ≤ v - n + k) {l : ℕ} (e : l ≡ length (leavesOf rows n (left rows (v - n)))) {o : Splitting} (g : o ≡ splitOf metric expected cov n (take l ms) (take (length ms - l) (drop l ms))) where
-      allot-split : allottedAt metric expected cov rows n k v w ws
+    module _ (h : n ≤ v - n + k) {l : ℕ} (e : l ≡ length (leavesOf rows n (left rows (v - n)))) {o : Splitting} (g : o ≡ splitOf metric x cov n (take l ms) (take (length ms - l) (drop l ms))) where
+      allot-split : allottedAt metric x cov rows n k v w ws
           ≡ onward o
-          (λ s. andThen (allottedAt metric expected cov rows n k (left rows (v - n)) (mul binary64 w (s .factor)) ws)
-          (λ mid. allottedAt metric expected cov rows n k (right rows (v - n)) (mul binary64 w (sub binary64 unit (s .factor))) mid))
+          (λ s. andThen (allottedAt metric x cov rows n k (left rows (v - n)) (mul binary64 w (s .factor)) ws)
+          (λ mid. allottedAt metric x cov rows n k (right rows (v - n)) (mul binary64 w (sub binary64 unit (s .factor))) mid))
       unfolding allotted
       allot-split = rw (g, left-part p ge e, right-part p ge e, tree-on (p .node .on) ge, le-leb n (v - n + k) h)
 
-      pub no-split : {r : Refusal} → o ≡ splitting.Refused r → allottedAt metric expected cov rows n k v w ws ≡ none
+      pub no-split : {r : Refusal} → o ≡ splitting.Refused r → allottedAt metric x cov rows n k v w ws ≡ none
       no-split q = rw (allot-split, q)
 
       -- the left call refused, or left `mid` and the right call said what it gave
-      module _ {s : Split} (q : o ≡ splitting.By s) (r : Bool) (mid : List Float) (one : told r mid ≡ allottedAt metric expected cov rows n k (left rows (v - n)) (mul binary64 w (s .factor)) ws) where
-        pub left-refused : r ≡ false → allottedAt metric expected cov rows n k v w ws ≡ none
+      module _ {s : Split} (q : o ≡ splitting.By s) (r : Bool) (mid : List Float) (one : told r mid ≡ allottedAt metric x cov rows n k (left rows (v - n)) (mul binary64 w (s .factor)) ws) where
+        pub left-refused : r ≡ false → allottedAt metric x cov rows n k v w ws ≡ none
         unfolding told
         left-refused no-left = rw (allot-split, q, ← one, no-left)
 
-        pub both : {o2 : Shares} → r ≡ true → o2 ≡ allottedAt metric expected cov rows n k (right rows (v - n)) (mul binary64 w (sub binary64 unit (s .factor))) mid
-            → o2 ≡ allottedAt metric expected cov rows n k v w ws
+        pub both : {o2 : Shares} → r ≡ true → o2 ≡ allottedAt metric x cov rows n k (right rows (v - n)) (mul binary64 w (sub binary64 unit (s .factor))) mid
+            → o2 ≡ allottedAt metric x cov rows n k v w ws
         unfolding told
         both went two = rw (allot-split, q, ← one, went) two

@@ -14,11 +14,11 @@ use Rattle.clusters.specs.Clusters.{nth, shares, sharesOutcome}
 use Rattle.clusters.specs.Shares.{Shares, none, some, andThen}
 use Rattle.tree.specs.Tree.{Tree, leaf, fork, treeAt, leaves}
 use Rattle.sharing.specs.declared.Metric.{Metric}
-use Rattle.sharing.specs.declared.Metric.the-variants.{MinimumVariance, MinimumStandardDeviation, SharpeRatio, EqualWeighting}
+use Rattle.sharing.specs.declared.Metric.the-variants.{MinimumVariance, MinimumStandardDeviation, SharpeRatio, EqualWeighting, ExpectedShortfall, ConditionalDrawdownRisk}
 use Rattle.sharing.specs.declared.Split.{Split}
 use Rattle.sharing.specs.declared.Splitting.{Splitting}
 use Rattle.sharing.specs.declared.Splitting.the-variants as splitting
-use Rattle.sharing.specs.Split.{splitOf}
+use Rattle.sharing.specs.Split.{Inputs, splitOf}
 
 -- "Node n + row splits when row + k ≥ n"; an asset is never cut
 abbrev pub splits : ℕ → ℕ → Tree → Bool
@@ -55,6 +55,8 @@ insideOf MinimumVariance cov n ms w ws = variedOf cov n ms w ws
 insideOf MinimumStandardDeviation cov n ms w ws = variedOf cov n ms w ws
 insideOf SharpeRatio cov n ms w ws = variedOf cov n ms w ws
 insideOf EqualWeighting cov n ms w ws = some (equalOf ms w ws)
+insideOf ExpectedShortfall cov n ms w ws = variedOf cov n ms w ws
+insideOf ConditionalDrawdownRisk cov n ms w ws = variedOf cov n ms w ws
 
 abbrev pub onward : Splitting → (Split → Shares) → Shares
 onward (splitting.Refused r) f = none
@@ -62,19 +64,19 @@ onward (splitting.By s) f = f s
 
 -- the weights once w has been shared out below a node; b says whether the node splits, and is matched on.
 -- "Children get weight · factor and weight · (1 − factor). An uncut asset gets its node's weight"
-unfoldable pub allotted : Metric → List Float → List Float → ℕ → ℕ → Tree → Bool → Float → List Float → Shares
+unfoldable pub allotted : Metric → Inputs → List Float → ℕ → ℕ → Tree → Bool → Float → List Float → Shares
 unfolding insideOf
-allotted metric expected cov n k (leaf a) b w ws = some (set ws a w)
-allotted metric expected cov n k (fork r l t) true w ws =
-    onward (splitOf metric expected cov n (leaves l) (leaves t))
-    (λ s. andThen (allotted metric expected cov n k l (splits n k l) (mul binary64 w (s .factor)) ws)
-    (λ mid. allotted metric expected cov n k t (splits n k t) (mul binary64 w (sub binary64 unit (s .factor))) mid))
-allotted metric expected cov n k (fork r l t) false w ws = insideOf metric cov n (leaves (fork r l t)) w ws
+allotted metric x cov n k (leaf a) b w ws = some (set ws a w)
+allotted metric x cov n k (fork r l t) true w ws =
+    onward (splitOf metric x cov n (leaves l) (leaves t))
+    (λ s. andThen (allotted metric x cov n k l (splits n k l) (mul binary64 w (s .factor)) ws)
+    (λ mid. allotted metric x cov n k t (splits n k t) (mul binary64 w (sub binary64 unit (s .factor))) mid))
+allotted metric x cov n k (fork r l t) false w ws = insideOf metric cov n (leaves (fork r l t)) w ws
 
-abbrev pub allottedAt : Metric → List Float → List Float → List ℕ → ℕ → ℕ → ℕ → Float → List Float → Shares
-allottedAt metric expected cov rows n k v w ws = allotted metric expected cov n k (treeAt rows n v) (splits n k (treeAt rows n v)) w ws
+abbrev pub allottedAt : Metric → Inputs → List Float → List ℕ → ℕ → ℕ → ℕ → Float → List Float → Shares
+allottedAt metric x cov rows n k v w ws = allotted metric x cov n k (treeAt rows n v) (splits n k (treeAt rows n v)) w ws
 
 -- "HCAA recursion starts at node 2n − 2 with weight 1 and walks down."
-unfoldable pub sharesOf : Metric → List Float → List Float → List ℕ → ℕ → ℕ → Shares
+unfoldable pub sharesOf : Metric → Inputs → List Float → List ℕ → ℕ → ℕ → Shares
 unfolding allotted
-sharesOf metric expected cov rows n k = allottedAt metric expected cov rows n k (2 * n - 2) unit (zeros n)
+sharesOf metric x cov rows n k = allottedAt metric x cov rows n k (2 * n - 2) unit (zeros n)

@@ -1,4 +1,4 @@
--- Document 01, "Sharing out": the factor of a split. Definitions only.
+-- Document 01, "Sharing out", and document 02, request 1: the factor of a split. Definitions only.
 use Prim.Native.Nat.{ℕ}
 use mathlib.Core.Bool.{Bool, true, false, cond, _&&_}
 use mathlib.Core.List.{List}
@@ -7,10 +7,11 @@ use Rattle.arithmetic.specs.Constants.{pz, unit, half, epsilon}
 use Rattle.arithmetic.specs.Arithmetic.{clampOf, finiteOf}
 use Rattle.arithmetic.specs.Root.{root}
 use Rattle.clusters.specs.Clusters.{varianceAnswer, expectation, ratio}
+use Rattle.tails.specs.Tail.{shortfallOf, drawdownOf}
 use Rattle.clusters.specs.declared.Risk.{Risk}
 use Rattle.clusters.specs.declared.Risk.the-variants as risk
 use Rattle.sharing.specs.declared.Metric.{Metric}
-use Rattle.sharing.specs.declared.Metric.the-variants.{MinimumVariance, MinimumStandardDeviation, SharpeRatio, EqualWeighting}
+use Rattle.sharing.specs.declared.Metric.the-variants.{MinimumVariance, MinimumStandardDeviation, SharpeRatio, EqualWeighting, ExpectedShortfall, ConditionalDrawdownRisk}
 use Rattle.sharing.specs.declared.Split.{Split}
 use Rattle.sharing.specs.declared.Splitting.{Splitting}
 use Rattle.sharing.specs.declared.Splitting.the-variants as splitting
@@ -42,20 +43,34 @@ unfoldable pub byRatio : Float → Float → Float → Float → Split
 unfolding fair splitBy byRisk
 byRatio s t l r = pickSplit (fair s t) (splitBy s t (div binary64 s (add binary64 s t))) (byRisk l r)
 
--- l and r are the variances of the two sides a and b
-unfoldable pub scored : Metric → List Float → List Float → ℕ → List ℕ → List ℕ → Float → Float → Split
-unfolding byRisk byRatio splitBy
-scored MinimumVariance expected cov n a b l r = byRisk l r
-scored MinimumStandardDeviation expected cov n a b l r = byRisk (root l) (root r)
-scored SharpeRatio expected cov n a b l r = byRatio (ratio (expectation expected cov n a) l) (ratio (expectation expected cov n b) r) l r
-scored EqualWeighting expected cov n a b l r = splitBy l r half
+-- what the metrics read beside the covariance: the expected returns (Sharpe); the rows of returns and the confidence (the tail-risk metrics)
+pub record Inputs : Type 0 where
+  pub expected : List Float
+  pub returns : List Float
+  pub return-rows : ℕ
+  pub confidence : Float
 
--- "after both variances have been worked out": a side that has none refuses
+abbrev pub inputs : List Float → List Float → ℕ → Float → Inputs
+inputs e xs h q = record { expected = e; returns = xs; return-rows = h; confidence = q }
+
+-- l and r are the variances of the two sides a and b
+unfoldable pub scored : Metric → Inputs → List Float → ℕ → List ℕ → List ℕ → Float → Float → Split
+unfolding byRisk byRatio splitBy
+scored MinimumVariance x cov n a b l r = byRisk l r
+scored MinimumStandardDeviation x cov n a b l r = byRisk (root l) (root r)
+scored SharpeRatio x cov n a b l r = byRatio (ratio (expectation (x .expected) cov n a) l) (ratio (expectation (x .expected) cov n b) r) l r
+scored EqualWeighting x cov n a b l r = splitBy l r half
+scored ExpectedShortfall x cov n a b l r =
+    byRisk (shortfallOf (x .returns) (x .return-rows) cov n a (x .confidence)) (shortfallOf (x .returns) (x .return-rows) cov n b (x .confidence))
+scored ConditionalDrawdownRisk x cov n a b l r =
+    byRisk (drawdownOf (x .returns) (x .return-rows) cov n a (x .confidence)) (drawdownOf (x .returns) (x .return-rows) cov n b (x .confidence))
+
+-- "after both variances have been worked out", whatever the metric: a side that has none refuses
 abbrev pub bothOf : Risk → Risk → (Float → Float → Split) → Splitting
 bothOf (risk.Refused k) w f = splitting.Refused k
 bothOf (risk.Of x) (risk.Refused k) f = splitting.Refused k
 bothOf (risk.Of x) (risk.Of y) f = splitting.By (f x y)
 
-unfoldable pub splitOf : Metric → List Float → List Float → ℕ → List ℕ → List ℕ → Splitting
+unfoldable pub splitOf : Metric → Inputs → List Float → ℕ → List ℕ → List ℕ → Splitting
 unfolding scored
-splitOf metric expected cov n a b = bothOf (varianceAnswer cov n n a) (varianceAnswer cov n n b) (scored metric expected cov n a b)
+splitOf metric x cov n a b = bothOf (varianceAnswer cov n n a) (varianceAnswer cov n n b) (scored metric x cov n a b)

@@ -1,15 +1,20 @@
 -- What the private functions that walk down a tree, and deal out a weight, ask and promise. Definitions only.
-use Prim.Native.Nat.{ℕ, _-_, _≤_, _<_}
+use Prim.Native.Nat.{ℕ, _*_, _≤_, _<_}
 use mathlib.Core.Path.{_≡_}
+use mathlib.Core.Bool.{true, false}
 use mathlib.Core.List.{List}
 use lib.ListN.{length, take}
 use lib.Ieee.{Float}
-use Rattle.lent.specs.Lent.{most-assets}
+use Rattle.lent.specs.Grid.{zeros}
+use Rattle.lent.specs.Lent.{most-assets, least-scratch, overLimit}
+use Rattle.ordering.specs.Nearest.{noPart}
 use Rattle.clusters.specs.Clusters.{nth}
 use Rattle.tree.specs.Tree.{leavesOf}
 use Rattle.tree.specs.Walk.{OnTree}
 use Rattle.sharing.specs.declared.Metric.{Metric}
 use Rattle.sharing.specs.declared.Metric.the-variants.{SharpeRatio}
+use Rattle.sharing.specs.Split.{Inputs}
+use Rattle.sharing.specs.Down.{isTailRisk}
 
 -- a node of a tree of at most 64 assets
 pub record Below (rows : List ℕ) (n v : ℕ) : Type 0 where
@@ -26,10 +31,27 @@ pub record Dealt (members : List ℕ) (m : ℕ) : Type 0 where
   pub few : length members ≤ most-assets
   pub each : (j : ℕ) → j < length members → nth members j < m
 
--- what the recursion asks: a node and its leaves, at most n clusters, a weight for each asset, and an expected return for each under Sharpe
-pub record Down (metric : Metric) (expected : List Float) (rows : List ℕ) (n k v : ℕ) (members : List ℕ) (ws : List Float) : Type 0 where
+-- what a tail-risk metric asks: rows of a return for each of n assets, and a confidence from 0 to 1
+pub record Tailed (returns : List Float) (h : ℕ) (confidence : Float) (n : ℕ) : Type 0 where
+  pub rows : 0 < h
+  pub limits : overLimit h n ≡ false
+  pub cells : length returns ≡ h * n
+  pub part : noPart confidence ≡ false
+
+-- what a metric asks: an expected return for each asset under Sharpe, and the above under a tail-risk metric
+pub record Fed (metric : Metric) (x : Inputs) (n : ℕ) : Type 0 where
+  pub expects : metric ≡ SharpeRatio → length (x .expected) ≡ n
+  pub tailed : isTailRisk metric ≡ true → Tailed (x .returns) (x .return-rows) (x .confidence) n
+
+-- scratch that is lent on: enough of it, and zero
+pub record Blank (scratch : List Float) : Type 0 where
+  pub enough : least-scratch ≤ length scratch
+  pub zero : scratch ≡ zeros (length scratch)
+
+-- what the recursion asks: a node and its leaves, at most n clusters, a weight for each asset, and what the metric asks
+pub record Down (metric : Metric) (x : Inputs) (rows : List ℕ) (n k v : ℕ) (members : List ℕ) (ws : List Float) : Type 0 where
   pub node : Below rows n v
   pub list : members ≡ leavesOf rows n v
   pub cut : k ≤ n
   pub each : n ≤ length ws
-  pub expects : metric ≡ SharpeRatio → length expected ≡ n
+  pub fed : Fed metric x n

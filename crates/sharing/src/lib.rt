@@ -7,19 +7,20 @@ use refusal::Refusal;
 use tree::Asset;
 use tree::Node;
 ghost use mathlib.Core.Path.{_≡_};
-ghost use Prim.Native.Nat.{ℕ, _<_};
-ghost use lib.ListN.{length, getD, set};
+ghost use Prim.Native.Nat.{_<_};
+ghost use lib.ListN.{length, set};
 ghost use Rattle.refusal.specs.Table.{first};
 ghost use Rattle.tree.specs.Tree.{leavesOf};
 ghost use Rattle.clusters.specs.Clusters.{varianceAnswer, expectation, ratio};
+ghost use Rattle.lent.specs.Grid.{zeros};
 ghost use Rattle.clusters.specs.Shares.{told};
 ghost use Rattle.clusters.specs.declared.Risk.the-variants as risk;
-ghost use Rattle.sharing.specs.declared.Metric.the-variants.{SharpeRatio};
+ghost use Rattle.tails.specs.Tail.{shortfallOf, drawdownOf};
 ghost use Rattle.sharing.specs.Names.{metricNamed};
-ghost use Rattle.sharing.specs.Split.{bounded, splitBy, byRisk, byRatio, scored, splitOf};
+ghost use Rattle.sharing.specs.Split.{inputs, bounded, splitBy, byRisk, byRatio, scored, splitOf};
 ghost use Rattle.sharing.specs.Allot.{spreadOf, equalOf, dealTo, variedOf, insideOf, allottedAt};
-ghost use Rattle.sharing.specs.Down.{isSharpe, callTable, downAnswer, downWeights, call};
-ghost use Rattle.sharing.specs.Walk.{Below, Front, Dealt, Down};
+ghost use Rattle.sharing.specs.Down.{isSharpe, isTailRisk, callTable, downAnswer, downWeights, call};
+ghost use Rattle.sharing.specs.Walk.{Below, Front, Dealt, Tailed, Fed, Blank, Down};
 
 // How a node's weight is shared between its two children.
 pub enum Metric {
@@ -27,6 +28,8 @@ pub enum Metric {
     MinimumStandardDeviation,
     SharpeRatio,
     EqualWeighting,
+    ExpectedShortfall,
+    ConditionalDrawdownRisk,
 }
 
 // A split keeps the two sides' risks and the left side's factor together.
@@ -65,10 +68,10 @@ pub fn metric_named(name: &[u8]) -> NamedMetric
         return NamedMetric::Of(Metric::EqualWeighting);
     }
     if text::same(name, b"expected_shortfall") {
-        return NamedMetric::Refused(Refusal::TailRiskMetric);
+        return NamedMetric::Of(Metric::ExpectedShortfall);
     }
     if text::same(name, b"conditional_drawdown_risk") {
-        return NamedMetric::Refused(Refusal::TailRiskMetric);
+        return NamedMetric::Of(Metric::ConditionalDrawdownRisk);
     }
     NamedMetric::Refused(Refusal::UnknownAllocationMetric)
 }
@@ -124,21 +127,96 @@ fn ratio_of(expected: &[f64], cov: &[f64], n: usize, side: &[usize], v: f64) -> 
     }
 }
 
+// The expected shortfall of a side whose variance is v, and so is not refused.
+fn shortfall_of(
+    returns: &[f64],
+    return_rows: usize,
+    cov: &[f64],
+    n: usize,
+    side: &[usize],
+    confidence: f64,
+    v: f64,
+    scratch: &mut [f64],
+) -> f64
+    requires { ⌜ Tailed (now returns) «return_rows» confidence n ⌝ }
+    requires { ⌜ varianceAnswer (now cov) n n (now side) ≡ risk.Of v ⌝ }
+    requires { ⌜ Blank (now scratch) ⌝ }
+    ensures { λ r. ⌜ r ≡ shortfallOf (now (returns .entry)) «return_rows» (now (cov .entry)) n (now (side .entry)) confidence ⌝ }
+    ensures { λ _. ⌜ now (scratch .exit) ≡ now (scratch .entry) ⌝ }
+{
+    // the call clears all that it is lent: no more than the series needs
+    let m = return_rows + 1;
+    match tails::cluster_expected_shortfall(
+        returns,
+        return_rows,
+        n,
+        cov,
+        n,
+        n,
+        side,
+        confidence,
+        &mut scratch[..m],
+    ) {
+        Risk::Of(x) => x,
+        Risk::Refused(_) => 0.0,
+    }
+}
+
+// The conditional drawdown, likewise.
+fn drawdown_of(
+    returns: &[f64],
+    return_rows: usize,
+    cov: &[f64],
+    n: usize,
+    side: &[usize],
+    confidence: f64,
+    v: f64,
+    scratch: &mut [f64],
+) -> f64
+    requires { ⌜ Tailed (now returns) «return_rows» confidence n ⌝ }
+    requires { ⌜ varianceAnswer (now cov) n n (now side) ≡ risk.Of v ⌝ }
+    requires { ⌜ Blank (now scratch) ⌝ }
+    ensures { λ r. ⌜ r ≡ drawdownOf (now (returns .entry)) «return_rows» (now (cov .entry)) n (now (side .entry)) confidence ⌝ }
+    ensures { λ _. ⌜ now (scratch .exit) ≡ now (scratch .entry) ⌝ }
+{
+    let m = return_rows + 1;
+    match tails::cluster_conditional_drawdown(
+        returns,
+        return_rows,
+        n,
+        cov,
+        n,
+        n,
+        side,
+        confidence,
+        &mut scratch[..m],
+    ) {
+        Risk::Of(x) => x,
+        Risk::Refused(_) => 0.0,
+    }
+}
+
 // The split of two sides whose variances are l and r.
 fn score(
     metric: Metric,
     expected: &[f64],
+    returns: &[f64],
+    return_rows: usize,
+    confidence: f64,
     cov: &[f64],
     n: usize,
     left: &[usize],
     right: &[usize],
     l: f64,
     r: f64,
+    scratch: &mut [f64],
 ) -> Split
-    requires { ⌜ (metric ≡ SharpeRatio → length (now expected) ≡ n) ⌝ }
+    requires { ⌜ Fed metric (inputs (now expected) (now returns) «return_rows» confidence) n ⌝ }
     requires { ⌜ varianceAnswer (now cov) n n (now left) ≡ risk.Of l ⌝ }
     requires { ⌜ varianceAnswer (now cov) n n (now right) ≡ risk.Of r ⌝ }
-    ensures { λ s. ⌜ s ≡ scored metric (now (expected .entry)) (now (cov .entry)) n (now (left .entry)) (now (right .entry)) l r ⌝ }
+    requires { ⌜ Blank (now scratch) ⌝ }
+    ensures { λ s. ⌜ s ≡ scored metric (inputs (now (expected .entry)) (now (returns .entry)) «return_rows» confidence) (now (cov .entry)) n (now (left .entry)) (now (right .entry)) l r ⌝ }
+    ensures { λ _. ⌜ now (scratch .exit) ≡ now (scratch .entry) ⌝ }
 {
     match metric {
         Metric::MinimumVariance => by_risk(l, r),
@@ -149,6 +227,16 @@ fn score(
             by_ratio(s, t, l, r)
         }
         Metric::EqualWeighting => split_by(l, r, 0.5),
+        Metric::ExpectedShortfall => {
+            let s = shortfall_of(returns, return_rows, cov, n, left, confidence, l, scratch);
+            let t = shortfall_of(returns, return_rows, cov, n, right, confidence, r, scratch);
+            by_risk(s, t)
+        }
+        Metric::ConditionalDrawdownRisk => {
+            let s = drawdown_of(returns, return_rows, cov, n, left, confidence, l, scratch);
+            let t = drawdown_of(returns, return_rows, cov, n, right, confidence, r, scratch);
+            by_risk(s, t)
+        }
     }
 }
 
@@ -156,13 +244,19 @@ fn score(
 fn split_factor(
     metric: Metric,
     expected: &[f64],
+    returns: &[f64],
+    return_rows: usize,
+    confidence: f64,
     cov: &[f64],
     n: usize,
     left: &[usize],
     right: &[usize],
+    scratch: &mut [f64],
 ) -> Splitting
-    requires { ⌜ (metric ≡ SharpeRatio → length (now expected) ≡ n) ⌝ }
-    ensures { λ s. ⌜ s ≡ splitOf metric (now (expected .entry)) (now (cov .entry)) n (now (left .entry)) (now (right .entry)) ⌝ }
+    requires { ⌜ Fed metric (inputs (now expected) (now returns) «return_rows» confidence) n ⌝ }
+    requires { ⌜ Blank (now scratch) ⌝ }
+    ensures { λ s. ⌜ s ≡ splitOf metric (inputs (now (expected .entry)) (now (returns .entry)) «return_rows» confidence) (now (cov .entry)) n (now (left .entry)) (now (right .entry)) ⌝ }
+    ensures { λ _. ⌜ now (scratch .exit) ≡ now (scratch .entry) ⌝ }
 {
     let a = clusters::cluster_variance(cov, n, n, left);
     let b = clusters::cluster_variance(cov, n, n, right);
@@ -170,7 +264,22 @@ fn split_factor(
         Risk::Refused(k) => Splitting::Refused(k),
         Risk::Of(l) => match b {
             Risk::Refused(k) => Splitting::Refused(k),
-            Risk::Of(r) => { Splitting::By(score(metric, expected, cov, n, left, right, l, r)) }
+            Risk::Of(r) => {
+                Splitting::By(score(
+                    metric,
+                    expected,
+                    returns,
+                    return_rows,
+                    confidence,
+                    cov,
+                    n,
+                    left,
+                    right,
+                    l,
+                    r,
+                    scratch,
+                ))
+            }
         },
     }
 }
@@ -292,6 +401,8 @@ fn inside(
             deal_equally(members, weight, weights);
             true
         }
+        Metric::ExpectedShortfall => deal_by_variance(cov, n, members, weight, weights),
+        Metric::ConditionalDrawdownRisk => deal_by_variance(cov, n, members, weight, weights),
     }
 }
 
@@ -299,6 +410,9 @@ fn inside(
 fn share(
     metric: Metric,
     expected: &[f64],
+    returns: &[f64],
+    return_rows: usize,
+    confidence: f64,
     cov: &[f64],
     rows: &[usize],
     n: usize,
@@ -307,9 +421,12 @@ fn share(
     members: &[usize],
     weight: f64,
     weights: &mut [f64],
+    scratch: &mut [f64],
 ) -> bool
-    requires { ⌜ Down metric (now expected) (now rows) n clusters (node .0) (now members) (now weights) ⌝ }
-    ensures { λ r. ⌜ told r (now (weights .exit)) ≡ allottedAt metric (now (expected .entry)) (now (cov .entry)) (now (rows .entry)) n clusters (node .0) weight (now (weights .entry)) ⌝ }
+    requires { ⌜ Down metric (inputs (now expected) (now returns) «return_rows» confidence) (now rows) n clusters (node .0) (now members) (now weights) ⌝ }
+    requires { ⌜ Blank (now scratch) ⌝ }
+    ensures { λ r. ⌜ told r (now (weights .exit)) ≡ allottedAt metric (inputs (now (expected .entry)) (now (returns .entry)) «return_rows» confidence) (now (cov .entry)) (now (rows .entry)) n clusters (node .0) weight (now (weights .entry)) ⌝ }
+    ensures { λ _. ⌜ now (scratch .exit) ≡ now (scratch .entry) ⌝ }
 {
     let at = node.0;
     if at < n {
@@ -323,14 +440,27 @@ fn share(
     let a = rows[2 * k];
     let b = rows[2 * k + 1];
     let l = leaf_count(rows, n, Node(a));
-    let Splitting::By(s) = split_factor(metric, expected, cov, n, &members[..l], &members[l..])
-    else {
+    let Splitting::By(s) = split_factor(
+        metric,
+        expected,
+        returns,
+        return_rows,
+        confidence,
+        cov,
+        n,
+        &members[..l],
+        &members[l..],
+        scratch,
+    ) else {
         return false;
     };
     let f = s.factor;
     if !share(
         metric,
         expected,
+        returns,
+        return_rows,
+        confidence,
         cov,
         rows,
         n,
@@ -339,12 +469,16 @@ fn share(
         &members[..l],
         weight * f,
         weights,
+        scratch,
     ) {
         return false;
     }
     share(
         metric,
         expected,
+        returns,
+        return_rows,
+        confidence,
         cov,
         rows,
         n,
@@ -353,6 +487,7 @@ fn share(
         &members[l..],
         weight * (1.0 - f),
         weights,
+        scratch,
     )
 }
 
@@ -364,6 +499,21 @@ pub fn is_sharpe(metric: Metric) -> bool
         Metric::MinimumStandardDeviation => false,
         Metric::SharpeRatio => true,
         Metric::EqualWeighting => false,
+        Metric::ExpectedShortfall => false,
+        Metric::ConditionalDrawdownRisk => false,
+    }
+}
+
+pub fn is_tail_risk(metric: Metric) -> bool
+    ensures { λ r. ⌜ r ≡ isTailRisk metric ⌝ }
+{
+    match metric {
+        Metric::MinimumVariance => false,
+        Metric::MinimumStandardDeviation => false,
+        Metric::SharpeRatio => false,
+        Metric::EqualWeighting => false,
+        Metric::ExpectedShortfall => true,
+        Metric::ConditionalDrawdownRisk => true,
     }
 }
 
@@ -372,6 +522,10 @@ fn judge(
     metric: Metric,
     expected: &[f64],
     given: bool,
+    returns: &[f64],
+    return_rows: usize,
+    return_columns: usize,
+    confidence: f64,
     cov: &[f64],
     height: usize,
     width: usize,
@@ -379,36 +533,53 @@ fn judge(
     n: usize,
     clusters: usize,
     room: usize,
+    scratch: usize,
 ) -> Outcome
-    ensures { λ r. ⌜ r ≡ first (callTable (call metric (now (expected .entry)) given (now (cov .entry)) height width (now (rows .entry)) n clusters) room) ⌝ }
+    ensures { λ r. ⌜ r ≡ first (callTable (call metric (inputs (now (expected .entry)) (now (returns .entry)) «return_rows» confidence) given «return_columns» (now (cov .entry)) height width (now (rows .entry)) n clusters) room scratch) ⌝ }
 {
     let sharpe = is_sharpe(metric);
+    let tail = is_tail_risk(metric);
     let missing = refusal::both(sharpe, !given);
     let unexpected = refusal::both(sharpe, refusal::both(given, expected.len() != n));
     let other_size = refusal::either(height != n, width != n);
+    let other_rows = refusal::both(tail, refusal::both(0 < return_rows, return_columns != n));
+    let no_rows = refusal::both(tail, return_rows == 0);
+    let no_part = refusal::both(tail, ordering::is_no_part(confidence));
     let no_count = refusal::either(clusters == 0, n < clusters);
     let count = Refusal::InvalidNumClusters {
         requested: clusters,
         assets: n,
     };
     let rest = refusal::refuse(no_count, count, Outcome::Done);
+    let rest = refusal::refuse(no_part, Refusal::ConfidenceOutOfRange, rest);
+    let rest = refusal::refuse(no_rows, Refusal::MissingReturnsForTailRisk, rest);
     let rest = refusal::refuse(missing, Refusal::MissingExpectedReturnsForSharpe, rest);
     let rest = refusal::refuse(!tree::is_tree(rows, n), Refusal::NoTree, rest);
     let rest = refusal::refuse(n == 0, Refusal::NoData, rest);
+    let rest = refusal::refuse(other_rows, Refusal::DimensionMismatch, rest);
     let rest = refusal::refuse(unexpected, Refusal::DimensionMismatch, rest);
     let rest = refusal::refuse(other_size, Refusal::DimensionMismatch, rest);
+    let rest = refusal::refuse(scratch < lent::LEAST_SCRATCH, Refusal::ShortBuffer, rest);
     let rest = refusal::refuse(room < n, Refusal::ShortBuffer, rest);
+    let ragged = lent::has_other_length(returns.len(), return_rows, return_columns);
+    let rest = refusal::refuse(ragged, Refusal::SliceLength, rest);
     let misfit = lent::has_other_length(cov.len(), height, width);
     let rest = refusal::refuse(misfit, Refusal::SliceLength, rest);
+    let many = lent::over_limit(return_rows, return_columns);
+    let rest = refusal::refuse(many, Refusal::OverLimit, rest);
     let rest = refusal::refuse(lent::over_limit(height, width), Refusal::OverLimit, rest);
     refusal::refuse(lent::MOST_ASSETS < n, Refusal::OverLimit, rest)
 }
 
-// The weights of n assets, shared out from the last merge row's node down.
+// The weights of n assets, shared out from the last merge row's node down. Scratch is left zero.
 pub fn allocate_down_tree(
     metric: Metric,
     expected: &[f64],
     expected_given: bool,
+    returns: &[f64],
+    return_rows: usize,
+    return_columns: usize,
+    confidence: f64,
     covariance: &[f64],
     covariance_rows: usize,
     covariance_columns: usize,
@@ -416,14 +587,20 @@ pub fn allocate_down_tree(
     n: usize,
     clusters: usize,
     out: &mut [f64],
+    scratch: &mut [f64],
 ) -> Answer
-    ensures { λ r. ⌜ r ≡ downAnswer (call metric (now (expected .entry)) «expected_given» (now (covariance .entry)) «covariance_rows» «covariance_columns» (now (rows .entry)) n clusters) (length (now (out .entry))) ⌝ }
-    ensures { λ r. ⌜ now (out .exit) ≡ downWeights (call metric (now (expected .entry)) «expected_given» (now (covariance .entry)) «covariance_rows» «covariance_columns» (now (rows .entry)) n clusters) (length (now (out .entry))) ⌝ }
+    ensures { λ r. ⌜ r ≡ downAnswer (call metric (inputs (now (expected .entry)) (now (returns .entry)) «return_rows» confidence) «expected_given» «return_columns» (now (covariance .entry)) «covariance_rows» «covariance_columns» (now (rows .entry)) n clusters) (length (now (out .entry))) (length (now (scratch .entry))) ⌝ }
+    ensures { λ _. ⌜ now (out .exit) ≡ downWeights (call metric (inputs (now (expected .entry)) (now (returns .entry)) «return_rows» confidence) «expected_given» «return_columns» (now (covariance .entry)) «covariance_rows» «covariance_columns» (now (rows .entry)) n clusters) (length (now (out .entry))) (length (now (scratch .entry))) ⌝ }
+    ensures { λ _. ⌜ now (scratch .exit) ≡ zeros (length (now (scratch .entry))) ⌝ }
 {
     let said = judge(
         metric,
         expected,
         expected_given,
+        returns,
+        return_rows,
+        return_columns,
+        confidence,
         covariance,
         covariance_rows,
         covariance_columns,
@@ -431,8 +608,10 @@ pub fn allocate_down_tree(
         n,
         clusters,
         out.len(),
+        scratch.len(),
     );
     lent::clear(out);
+    lent::clear(scratch);
     let Outcome::Done = said else {
         return lent::answered(said, 1, n);
     };
@@ -442,6 +621,9 @@ pub fn allocate_down_tree(
     if !share(
         metric,
         expected,
+        returns,
+        return_rows,
+        confidence,
         covariance,
         rows,
         n,
@@ -450,6 +632,7 @@ pub fn allocate_down_tree(
         &order[..m],
         1.0,
         &mut out[..n],
+        scratch,
     ) {
         lent::clear(out);
         return Answer::Refused(Refusal::NoData);

@@ -31,6 +31,18 @@ enum-told-4 c = search needs
 deal-equally-requires : tie.Need-deal-equally-requires
 deal-equally-requires c κs = c .before .before .before .before .before .before .pre
 
+enum-told-5 : tie.Need-enum-told-5
+enum-told-5 c = search needs
+
+deal-by-variance-requires-4 : tie.Need-deal-by-variance-requires-4
+deal-by-variance-requires-4 c κs = c .before .before .before .before .before .before .pre
+
+enum-told-6 : tie.Need-enum-told-6
+enum-told-6 c = search needs
+
+deal-by-variance-requires-5 : tie.Need-deal-by-variance-requires-5
+deal-by-variance-requires-5 c κs = c .before .before .before .before .before .before .pre
+
 same-length : tie.Need-same-length
 same-length c = search needs
 
@@ -59,6 +71,20 @@ returns-4 : tie.Need-returns-4
 unfolding insideOf
 returns-4 c = rw (c .before .before .before .before .enum-told4 .given .1) (told-yes _ ∙ ap some (c .before .before .deal-equally .ensures))
 
+same-length-5 : tie.Need-same-length-5
+same-length-5 c = search needs
+
+returns-5 : tie.Need-returns-5
+unfolding insideOf
+returns-5 c = rw (c .before .before .before .before .enum-told5 .given .1) (c .before .before .deal-by-variance4 .ensures)
+
+same-length-6 : tie.Need-same-length-6
+same-length-6 c = search needs
+
+returns-6 : tie.Need-returns-6
+unfolding insideOf
+returns-6 c = rw (c .before .before .before .before .enum-told6 .given .1) (c .before .before .deal-by-variance5 .ensures)
+
 pub inside-spec : {M : Type 1} → statement M
 inside-spec =
     tie.close
@@ -71,6 +97,10 @@ inside-spec =
     deal-by-variance-requires-3
     enum-told-4
     deal-equally-requires
+    enum-told-5
+    deal-by-variance-requires-4
+    enum-told-6
+    deal-by-variance-requires-5
     same-length
     returns
     same-length-2
@@ -78,4 +108,8 @@ inside-spec =
     same-length-3
     returns-3
     same-length-4
-    returns-4)
+    returns-4
+    same-length-5
+    returns-5
+    same-length-6
+    returns-6)

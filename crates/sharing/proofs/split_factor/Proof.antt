@@ -1,5 +1,5 @@
 -- `sharing::split_factor` meets its contract. Assumes nothing.
-use mathlib.Core.Path.{sym, _∙_}
+use mathlib.Core.Path.{refl, sym, _∙_}
 use Rattle.sharing.proofs.Laws.{left-none, right-none, both-fine}
 use borrow.Author.Needs.{needs}
 use Rattle.sharing.proofs.split_factor.Statement.{statement}
@@ -24,16 +24,19 @@ enum-known-b-2 : tie.Need-enum-known-b-2
 enum-known-b-2 c = search needs
 
 score-requires : tie.Need-score-requires
-score-requires c κs = (c .before .before .before .before .before .before .before .before .before .before .before .before .pre, (sym (c .before .before .before .before .before .before .before .cluster-variance .ensures) ∙ c .before .before .before .before .a2 .given .1, sym (c .before .before .before .before .before .before .cluster-variance2 .ensures) ∙ c .before .b2 .given .1))
+score-requires c κs = (c .before .before .before .before .before .before .before .before .before .before .before .before .before .before .before .pre .0, (sym (c .before .before .before .before .before .before .before .before .cluster-variance .ensures) ∙ c .before .before .before .before .before .a2 .given .1, (sym (c .before .before .before .before .before .before .before .cluster-variance2 .ensures) ∙ c .before .before .b2 .given .1, c .before .before .before .before .before .before .before .before .before .before .before .before .before .before .before .pre .1)))
 
 returns : tie.Need-returns
-returns c = left-none _ _ _ _ _ _ _ (sym (c .before .before .before .before .cluster-variance .ensures) ∙ c .before .a .given .1)
+returns c = (left-none _ _ _ _ _ _ _ (sym (c .before .before .before .before .cluster-variance .ensures) ∙ c .before .a .given .1), refl)
 
 returns-2 : tie.Need-returns-2
-returns-2 c = right-none _ _ _ _ _ _ _ _ (sym (c .before .before .before .before .before .before .before .cluster-variance .ensures) ∙ c .before .before .before .before .a2 .given .1) (sym (c .before .before .before .before .before .before .cluster-variance2 .ensures) ∙ c .before .b .given .1)
+returns-2 c = (right-none _ _ _ _ _ _ _ _ (sym (c .before .before .before .before .before .before .before .cluster-variance .ensures) ∙ c .before .before .before .before .a2 .given .1) (sym (c .before .before .before .before .before .before .cluster-variance2 .ensures) ∙ c .before .b .given .1), refl)
+
+same-length : tie.Need-same-length
+same-length c = search needs
 
 returns-3 : tie.Need-returns-3
-returns-3 c = both-fine _ _ _ _ _ _ _ _ _ (sym (c .before .before .before .before .before .before .before .before .cluster-variance .ensures) ∙ c .before .before .before .before .before .a2 .given .1) (sym (c .before .before .before .before .before .before .before .cluster-variance2 .ensures) ∙ c .before .before .b2 .given .1) (c .score .ensures)
+returns-3 c = (both-fine _ _ _ _ _ _ _ _ _ (sym (c .before .before .before .before .before .before .before .before .before .before .before .cluster-variance .ensures) ∙ c .before .before .before .before .before .before .before .before .a2 .given .1) (sym (c .before .before .before .before .before .before .before .before .before .before .cluster-variance2 .ensures) ∙ c .before .before .before .before .before .b2 .given .1) (c .before .before .score .ensures .0), c .before .before .score .ensures .1)
 
 pub split-factor-spec : {M : Type 1} → statement M
 split-factor-spec =
@@ -48,4 +51,5 @@ split-factor-spec =
     score-requires
     returns
     returns-2
+    same-length
     returns-3)
