@@ -1,15 +1,14 @@
 -- Demand 3 of every accepted job by equal weighting. Assumes nothing.
 use Prim.Native.Nat.{ℕ, _*_, _-_, _≤_}
-use mathlib.Core.Path.{_≡_, sym, ap, subst, _∙_}
+use mathlib.Core.Path.{_≡_, sym, ap, _∙_}
 use mathlib.Core.Bool.{false}
-use mathlib.Core.List.{List, _++_}
+use mathlib.Core.List.{List}
 use native.Mathlib.Omega.{arith}
 use borrow.Author.Tests.{ltb-false, eqb-false}
 use lib.ListN.{length, take, replicate}
 use lib.Seq.{take-append-seam}
 use lib.Ieee.{Float}
 use Rattle.arithmetic.specs.Constants.{pz}
-use Rattle.refusal.specs.Table.{first}
 use Rattle.refusal.specs.declared.Outcome.{Outcome}
 use Rattle.refusal.specs.declared.Outcome.the-variants.{Done}
 use Rattle.refusal.proofs.Tables.{none, parts-done}
@@ -17,16 +16,16 @@ use Rattle.lent.specs.Lent.{laid}
 use Rattle.inputs.specs.Inputs.{matrixLines}
 use Rattle.tree.specs.Rows.{isTree}
 use Rattle.linkage.proofs.Rows.{rows-tree, rows-length}
-use Rattle.clusters.specs.Shares.{some, isNone, weightsIn}
+use Rattle.clusters.specs.Shares.{isNone, weightsIn}
 use Rattle.sharing.specs.declared.Metric.{Metric}
 use Rattle.sharing.specs.declared.Metric.the-variants.{EqualWeighting}
 use Rattle.sharing.specs.Allot.{sharesOf}
+use Rattle.sharing.specs.Down.{tailLines}
 use Rattle.sharing.proofs.Judged.{neither, shares-length}
-use Rattle.parity.specs.Parity.{treeDistances}
 use Rattle.equal.specs.Equal.{EqualShares}
 use Rattle.equal.proofs.Sharing.{equal-shared}
-use Rattle.hierarchy.specs.Hierarchy.{Room, rowsOf, weightsOf, distancesOf, roomLines, shareLines}
-use Rattle.hcaa.specs.Hcaa.{Job, usedMetric, usedExpected, usedCovariance, usedRule, countOf, nameLines, matrixRules, sharpeLines, hcaaTable, outcomeOf, Allocated, Equally}
+use Rattle.hierarchy.specs.Hierarchy.{Room, rowsOf, weightsOf, roomLines, shareLines}
+use Rattle.hcaa.specs.Hcaa.{Job, usedMetric, usedInputs, usedCovariance, usedRule, countOf, nameLines, matrixRules, sharpeLines, hcaaTable, outcomeOf, Allocated, Equally}
 
 -- what stands at the front of a buffer after an accepted job
 front : {A : Type 0} (z : A) (o : Outcome) (room n : ℕ) (cells out : List A) → o ≡ Done → length cells ≡ n → out ≡ laid z o room cells → take n out ≡ cells
@@ -43,7 +42,7 @@ module _ (j : Job) (room : Room) (o : outcomeOf j room ≡ Done) where
     shared : isNone (weightsOf (usedRule j) (j .distance) (j .linkage) (usedCovariance j) (j .assets)) ≡ false
 
   right : Right
-  unfolding outcomeOf hcaaTable matrixLines nameLines shareLines usedRule
+  unfolding outcomeOf hcaaTable matrixLines nameLines shareLines tailLines usedRule
   right =
       let a = parts-done (matrixLines (j .assets) (j .prices-shape) (length (j .prices)) (j .returns-shape) (length (j .returns)) (j .covariance-shape) (length (j .covariance))) _ o in
       let b = parts-done (roomLines (j .assets) room) _ (a .1) in
@@ -51,15 +50,15 @@ module _ (j : Job) (room : Room) (o : outcomeOf j room ≡ Done) where
       let d = parts-done (matrixRules j) _ (c .1) in
       let e = parts-done (sharpeLines j) _ (d .1) in
       let s = none (shareLines (usedRule j) (j .distance) (j .linkage) (usedCovariance j) (j .assets)) (e .1) in
-      let k = neither _ _ (s .0) in
-      let none-of : j .assets ≡ 0 → ⊥ = eqb-false (j .assets) 0 (none (nameLines j) (c .0) .1 .1 .1 .0) in
+      let k = neither _ _ (s .1 .1 .0) in
+      let none-of : j .assets ≡ 0 → ⊥ = eqb-false (j .assets) 0 (none (nameLines j) (c .0) .1 .1 .0) in
       let no-count : countOf (j .clusters) (j .assets) ≡ 0 → ⊥ = eqb-false (countOf (j .clusters) (j .assets)) 0 (k .0) in
       record {
         few = ltb-false 64 (j .assets) (none (matrixLines (j .assets) (j .prices-shape) (length (j .prices)) (j .returns-shape) (length (j .returns)) (j .covariance-shape) (length (j .covariance))) (a .0) .0);
         some-asset = omega arith;
         least = omega arith;
         cut = ltb-false (j .assets) (countOf (j .clusters) (j .assets)) (k .1);
-        shared = s .1 .1 .0;
+        shared = s .1 .1 .1 .1 .0;
       }
 
   abbrev rows-made : List ℕ
@@ -83,8 +82,8 @@ module _ (j : Job) (room : Room) (o : outcomeOf j room ≡ Done) where
   equal-job : usedMetric j ≡ EqualWeighting → EqualShares (j .assets) (countOf (j .clusters) (j .assets)) rows-made weights-made
   unfolding weightsOf usedRule
   equal-job m =
-      equal-shared (usedExpected j) (usedCovariance j) (j .assets) (countOf (j .clusters) (j .assets)) rows-made (right .some-asset) (right .few) rows-are-tree (right .least) (right .cut) _
-      (ap (λ (x : Metric). sharesOf x (usedExpected j) (usedCovariance j) rows-made (j .assets) (countOf (j .clusters) (j .assets))) (sym m) ∙ shares-length _ _ _ _ _ _ (right .shared) .0)
+      equal-shared (usedInputs j) (usedCovariance j) (j .assets) (countOf (j .clusters) (j .assets)) rows-made (right .some-asset) (right .few) rows-are-tree (right .least) (right .cut) _
+      (ap (λ (x : Metric). sharesOf x (usedInputs j) (usedCovariance j) rows-made (j .assets) (countOf (j .clusters) (j .assets))) (sym m) ∙ shares-length _ _ _ _ _ _ (right .shared) .0)
 
 pub equally : (j : Job) (room : Room) (r : Outcome) (rows order : List ℕ) (weights scratch : List Float) → Allocated j room r rows order weights scratch → Equally j r rows weights
 equally j room r rows order weights scratch a = record {

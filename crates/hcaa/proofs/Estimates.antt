@@ -14,7 +14,6 @@ use Rattle.refusal.specs.declared.Outcome.{Outcome}
 use Rattle.refusal.specs.declared.Outcome.the-variants.{Done}
 use Rattle.lent.specs.Grid.{grid}
 use Rattle.lent.specs.Lent.{sizes}
-use Rattle.lent.specs.declared.Shape.{Shape}
 use Rattle.lent.specs.declared.Shape.the-variants.{Absent}
 use Rattle.lent.proofs.Laws.{square-in, length-grid, length-tab}
 use Rattle.lent.proofs.Sizes.{sized-done}
@@ -27,10 +26,11 @@ use Rattle.linkage.specs.declared.Distance.{Distance}
 use Rattle.linkage.specs.declared.Linkage.{Linkage}
 use Rattle.sharing.specs.declared.Metric.{Metric}
 use Rattle.sharing.specs.Names.{metricNamed}
+use Rattle.sharing.specs.Split.{inputs}
 use Rattle.sharing.specs.Down.{isSharpe}
 use Rattle.hierarchy.specs.Hierarchy.{rule, Room, Answered}
 use Rattle.hcaa.specs.declared.Clusters.{Clusters}
-use Rattle.hcaa.specs.Hcaa.{returnRows, returnCells, rowsMade, cellsMade, covarianceOf, usedCovariance, metricOf, usedMetric, isMean, expectedOf, usedExpected, countOf, usedRule}
+use Rattle.hcaa.specs.Hcaa.{returnRows, returnCells, rowsMade, cellsMade, covarianceOf, usedCovariance, metricOf, usedMetric, isMean, expectedOf, usedExpected, countOf, usedInputs, usedRule}
 use Rattle.hcaa.specs.Steps.{held, estimatesOf}
 
 -- ---- from returns, h rows of n columns
@@ -61,11 +61,11 @@ module _ (xs : List Float) (h n : ℕ) (ok : first (sizes (length xs) h n) ≡ D
   covariance-done g = covariance-sized xs h n 4096 ok ∙ rw (le-ltb 4096 (n * n) (cells-fit (length xs) h n ok), le-ltb h 2 g)
 
   pub covariance-made : (d : List Float) → 2 ≤ h → d ≡ covariances xs h n 4096
-      → (e : List Float) (given : Bool) (m method : List ℕ) (k : Clusters) (u : Distance) (l : Linkage) (room : Room) (r : Outcome) (rows order : List ℕ) (weights scratch : List Float)
-      → Answered (usedRule (held n xs h n [] Absent e given m method k u l)) u l (take (n * n) d) n n room r rows order weights scratch
-      → Answered (usedRule (held n xs h n [] Absent e given m method k u l)) u l (usedCovariance (held n xs h n [] Absent e given m method k u l)) n n room r rows order weights scratch
+      → (e : List Float) (given : Bool) (m method : List ℕ) (conf : Float) (k : Clusters) (u : Distance) (l : Linkage) (room : Room) (r : Outcome) (rows order : List ℕ) (weights scratch : List Float)
+      → Answered (usedRule (held n xs h n [] Absent e given m method conf k u l)) u l (take (n * n) d) n n room r rows order weights scratch
+      → Answered (usedRule (held n xs h n [] Absent e given m method conf k u l)) u l (usedCovariance (held n xs h n [] Absent e given m method conf k u l)) n n room r rows order weights scratch
   unfolding covariances usedCovariance covarianceOf rowsMade cellsMade returnRows returnCells
-  covariance-made d g f e given m method k u l room r rows order weights scratch z =
+  covariance-made d g f e given m method conf k u l room r rows order weights scratch z =
       let q : take (n * n) d ≡ grid n n (covarianceCell xs h n) = laid-front pz _ 4096 (n * n) _ d f (covariance-done g) (length-grid n n (covarianceCell xs h n)) in
       rw q at z
 
@@ -76,39 +76,39 @@ read-fits false len read e = omega arith
 
 -- ---- the rule: its metric, its cluster count, and the expected returns that it reads
 
-module _ (n : ℕ) (xs : List Float) (h : ℕ) (e : List Float) (given : Bool) (m method : List ℕ) (k : Clusters) (u : Distance) (l : Linkage)
+module _ (n : ℕ) (xs : List Float) (h : ℕ) (e : List Float) (given : Bool) (m method : List ℕ) (conf : Float) (k : Clusters) (u : Distance) (l : Linkage)
     (used : Metric) (count : ℕ) (sharpe : Bool) (a : used ≡ metricOf (metricNamed m)) (b : count ≡ countOf k n) (s : sharpe ≡ isSharpe used) where
   -- estimated: under Sharpe, where none are given
-  rule-estimated : (t : Bool) → t ≡ (sharpe && not given) → t ≡ true → rule used (estimatesOf method xs h n) true count ≡ usedRule (held n xs h n [] Absent e given m method k u l)
-  unfolding usedRule usedMetric usedExpected expectedOf estimatesOf isMean rowsMade cellsMade returnRows returnCells
-  rule-estimated t f g = rw (a, b) (ap (λ (w : List Float). rule (metricOf (metricNamed m)) w true (countOf k n)) (go given (isSharpe (metricOf (metricNamed m))) (sym f′ ∙ g)))
+  rule-estimated : (t : Bool) → t ≡ (sharpe && not given) → t ≡ true → rule used (inputs (estimatesOf method xs h n) xs h conf) true n count ≡ usedRule (held n xs h n [] Absent e given m method conf k u l)
+  unfolding usedRule usedInputs usedMetric usedExpected expectedOf estimatesOf isMean rowsMade cellsMade returnRows returnCells
+  rule-estimated t f g = rw (a, b) (ap (λ (w : List Float). rule (metricOf (metricNamed m)) (inputs w xs h conf) true n (countOf k n)) (go given (isSharpe (metricOf (metricNamed m))) (sym f′ ∙ g)))
     where
       f′ : t ≡ (isSharpe (metricOf (metricNamed m)) && not given)
       f′ = f ∙ rw (s, a)
 
-      go : (gv sh : Bool) → (sh && not gv) ≡ true → estimatesOf method xs h n ≡ cond sh (expectedOf (held n xs h n [] Absent e given m method k u l) gv) []
+      go : (gv sh : Bool) → (sh && not gv) ≡ true → estimatesOf method xs h n ≡ cond sh (expectedOf (held n xs h n [] Absent e given m method conf k u l) gv) []
       go gv false q = absurd (let z : _≡_ {A = ℕ} 0 1 = cc in omega arith)
       go true true q = absurd (let z : _≡_ {A = ℕ} 0 1 = cc in omega arith)
       go false true q = refl
 
   -- given: read under Sharpe alone
-  rule-read : (t : Bool) (read : ℕ) → t ≡ (sharpe && not given) → t ≡ false → read ≡ cond sharpe (length e) 0 → rule used (take read e) true count ≡ usedRule (held n xs h n [] Absent e given m method k u l)
-  unfolding usedRule usedMetric usedExpected expectedOf
-  rule-read t read f g r = rw (r, s, a, b) (ap (λ (w : List Float). rule (metricOf (metricNamed m)) w true (countOf k n)) (go given (isSharpe (metricOf (metricNamed m))) (sym f′ ∙ g)))
+  rule-read : (t : Bool) (read : ℕ) → t ≡ (sharpe && not given) → t ≡ false → read ≡ cond sharpe (length e) 0 → rule used (inputs (take read e) xs h conf) true n count ≡ usedRule (held n xs h n [] Absent e given m method conf k u l)
+  unfolding usedRule usedInputs usedMetric usedExpected expectedOf rowsMade cellsMade returnRows returnCells
+  rule-read t read f g r = rw (r, s, a, b) (ap (λ (w : List Float). rule (metricOf (metricNamed m)) (inputs w xs h conf) true n (countOf k n)) (go given (isSharpe (metricOf (metricNamed m))) (sym f′ ∙ g)))
     where
       f′ : t ≡ (isSharpe (metricOf (metricNamed m)) && not given)
       f′ = f ∙ rw (s, a)
 
-      go : (gv sh : Bool) → (sh && not gv) ≡ false → take (cond sh (length e) 0) e ≡ cond sh (expectedOf (held n xs h n [] Absent e given m method k u l) gv) []
+      go : (gv sh : Bool) → (sh && not gv) ≡ false → take (cond sh (length e) 0) e ≡ cond sh (expectedOf (held n xs h n [] Absent e given m method conf k u l) gv) []
       go gv false q = refl
       go true true q = take-length e
       go false true q = absurd (let z : _≡_ {A = ℕ} 0 1 = cc in omega arith)
 
   module _ (cov : List Float) (room : Room) (r : Outcome) (rows order : List ℕ) (weights scratch : List Float) where
-    pub with-estimated : (t : Bool) → t ≡ (sharpe && not given) → t ≡ true → Answered (rule used (estimatesOf method xs h n) true count) u l cov n n room r rows order weights scratch
-        → Answered (usedRule (held n xs h n [] Absent e given m method k u l)) u l cov n n room r rows order weights scratch
+    pub with-estimated : (t : Bool) → t ≡ (sharpe && not given) → t ≡ true → Answered (rule used (inputs (estimatesOf method xs h n) xs h conf) true n count) u l cov n n room r rows order weights scratch
+        → Answered (usedRule (held n xs h n [] Absent e given m method conf k u l)) u l cov n n room r rows order weights scratch
     with-estimated t f g z = rw (rule-estimated t f g) at z
 
-    pub with-read : (t : Bool) (read : ℕ) → t ≡ (sharpe && not given) → t ≡ false → read ≡ cond sharpe (length e) 0 → Answered (rule used (take read e) true count) u l cov n n room r rows order weights scratch
-        → Answered (usedRule (held n xs h n [] Absent e given m method k u l)) u l cov n n room r rows order weights scratch
+    pub with-read : (t : Bool) (read : ℕ) → t ≡ (sharpe && not given) → t ≡ false → read ≡ cond sharpe (length e) 0 → Answered (rule used (inputs (take read e) xs h conf) true n count) u l cov n n room r rows order weights scratch
+        → Answered (usedRule (held n xs h n [] Absent e given m method conf k u l)) u l cov n n room r rows order weights scratch
     with-read t read f g q z = rw (rule-read t read f g q) at z

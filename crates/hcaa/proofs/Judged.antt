@@ -11,7 +11,7 @@ use lib.Ieee.{Float}
 use Rattle.arithmetic.specs.Constants.{pz}
 use Rattle.refusal.specs.Table.{Line, first, orElse, andThen}
 use Rattle.refusal.specs.declared.Refusal.{Refusal}
-use Rattle.refusal.specs.declared.Refusal.the-variants.{NoData, UnknownAllocationMetric, DimensionMismatch, MissingExpectedReturnsForSharpe, TailRiskMetric}
+use Rattle.refusal.specs.declared.Refusal.the-variants.{NoData, UnknownAllocationMetric, DimensionMismatch, MissingExpectedReturnsForSharpe, OverLimit, SliceLength}
 use Rattle.refusal.specs.declared.Outcome.{Outcome}
 use Rattle.refusal.specs.declared.Outcome.the-variants.{Done, Refused}
 use Rattle.refusal.proofs.Tables.{none, table, table-hit, table-pass, table-end, first-append, first-done, then-done, then-refused, both-done, parts-done}
@@ -24,48 +24,43 @@ use Rattle.lent.specs.declared.Shape.the-variants.{Absent, Of}
 use Rattle.lent.proofs.Laws.{square-in, length-grid, length-tab}
 use Rattle.lent.proofs.Sizes.{Sized, sized-done, laid-refused}
 use Rattle.text.specs.Bytes.{bytes, same}
-use Rattle.text.proofs.Names.{same-eq}
 use Rattle.resample.specs.Resample.{stepOf}
 use Rattle.linkage.specs.declared.Distance.{Distance}
 use Rattle.linkage.specs.declared.Linkage.{Linkage}
 use Rattle.stats.specs.Expected.{meanReturn, exponentialReturn}
 use Rattle.inputs.specs.Inputs.{absent, otherSize, matrixLines, madeAnswer, madeLaid}
 use Rattle.inputs.proofs.Laws.{sizes-pass, Fits, matrices-done}
-use Rattle.sharing.specs.declared.Metric.the-variants.{MinimumVariance, MinimumStandardDeviation, SharpeRatio, EqualWeighting}
+use Rattle.sharing.specs.declared.Metric.the-variants.{MinimumVariance, MinimumStandardDeviation, SharpeRatio, EqualWeighting, ExpectedShortfall, ConditionalDrawdownRisk}
 use Rattle.sharing.specs.declared.NamedMetric.{NamedMetric}
 use Rattle.sharing.specs.declared.NamedMetric.the-variants as metric
-use Rattle.sharing.specs.Names.{metricNamed, isTailRisk}
-use Rattle.sharing.specs.Down.{isSharpe}
-use Rattle.hierarchy.specs.Hierarchy.{Rule, Room, roomLines, expectedLines, shareLines, hierarchyTable, hierarchyOutcome, Laid, Answered, Cleared}
+use Rattle.sharing.specs.Names.{metricNamed}
+use Rattle.sharing.specs.Down.{isSharpe, isTailRisk, otherRows}
+use Rattle.hierarchy.specs.Hierarchy.{Rule, Room, roomLines, sizeLines, shapeLines, expectedLines, shareLines, hierarchyTable, hierarchyOutcome, Laid, Answered, Cleared}
 use Rattle.hcaa.specs.declared.Clusters.{Clusters}
 use Rattle.hcaa.proofs.Equal.{equally}
 use Rattle.hcaa.proofs.Prices.{none-made, kept-rows, price-rules, returns-are}
-use Rattle.hcaa.specs.Hcaa.{Job, job, returnRows, returnColumns, returnCells, pricesRefused, rowsMade, columnsMade, cellsMade, covarianceOf, usedCovariance, metricOf, usedMetric, unnamed, isMean, isExponential, expectedOf, usedExpected, usedRule, nameLines, matrixRules, sharpeLines, hcaaTable, outcomeOf, Allocated, Equally}
+use Rattle.hcaa.specs.Hcaa.{Job, job, returnRows, returnColumns, returnCells, pricesRefused, rowsMade, columnsMade, cellsMade, covarianceOf, usedCovariance, metricOf, usedMetric, unnamed, isMean, isExponential, expectedOf, usedExpected, usedInputs, usedRule, nameLines, matrixRules, sharpeLines, hcaaTable, outcomeOf, Allocated, Equally}
 use Rattle.hcaa.specs.Steps.{named, namesJudged, judgeTable, held, rulesJudged, expectedJudged, sizesOf, Ready, lastLines, Finished}
 
--- ---- the metric's name: 2 and 12 are never given for the same name
+-- ---- the metric's name: a name that is refused is refused by 2
 
-names-apart : (a b c d t : Bool) (l : List Line) → (a ≡ true → t ≡ false) → (b ≡ true → t ≡ false) → (c ≡ true → t ≡ false) → (d ≡ true → t ≡ false) → (q : NamedMetric)
-    → q ≡ cond a (metric.Of MinimumVariance) (cond b (metric.Of MinimumStandardDeviation) (cond c (metric.Of SharpeRatio) (cond d (metric.Of EqualWeighting) (cond t (metric.Refused TailRiskMetric) (metric.Refused UnknownAllocationMetric)))))
-    → first ((unnamed q && not t, UnknownAllocationMetric) ∷ (t, TailRiskMetric) ∷ l) ≡ andThen (named q) (first l)
+names-told : (a b c d f g : Bool) (l : List Line) (q : NamedMetric)
+    → q ≡ cond a (metric.Of MinimumVariance) (cond b (metric.Of MinimumStandardDeviation) (cond c (metric.Of SharpeRatio) (cond d (metric.Of EqualWeighting) (cond f (metric.Of ExpectedShortfall) (cond g (metric.Of ConditionalDrawdownRisk) (metric.Refused UnknownAllocationMetric))))))
+    → first ((unnamed q, UnknownAllocationMetric) ∷ l) ≡ andThen (named q) (first l)
 unfolding unnamed named first andThen
-names-apart true b c d t l f g h i q e = rw (e, f refl)
-names-apart false true c d t l f g h i q e = rw (e, g refl)
-names-apart false false true d t l f g h i q e = rw (e, h refl)
-names-apart false false false true t l f g h i q e = rw (e, i refl)
-names-apart false false false false true l f g h i q e = rw e
-names-apart false false false false false l f g h i q e = rw e
+names-told true b c d f g l q e = rw e
+names-told false true c d f g l q e = rw e
+names-told false false true d f g l q e = rw e
+names-told false false false true f g l q e = rw e
+names-told false false false false true g l q e = rw e
+names-told false false false false false true l q e = rw e
+names-told false false false false false false l q e = rw e
 
-pub named-lines : (name : List ℕ) (l : List Line) → first ((unnamed (metricNamed name) && not (isTailRisk name), UnknownAllocationMetric) ∷ (isTailRisk name, TailRiskMetric) ∷ l) ≡ andThen (named (metricNamed name)) (first l)
-unfolding metricNamed isTailRisk same
+named-lines : (name : List ℕ) (l : List Line) → first ((unnamed (metricNamed name), UnknownAllocationMetric) ∷ l) ≡ andThen (named (metricNamed name)) (first l)
+unfolding metricNamed
 named-lines name l =
-    names-apart (same name (bytes "minimum_variance")) (same name (bytes "minimum_standard_deviation")) (same name (bytes "sharpe_ratio")) (same name (bytes "equal_weighting")) (isTailRisk name) l
-    (λ e. ap isTailRisk (same-eq name (bytes "minimum_variance") e))
-    (λ e. ap isTailRisk (same-eq name (bytes "minimum_standard_deviation") e))
-    (λ e. ap isTailRisk (same-eq name (bytes "sharpe_ratio") e))
-    (λ e. ap isTailRisk (same-eq name (bytes "equal_weighting") e))
-    (metricNamed name)
-    refl
+    names-told (same name (bytes "minimum_variance")) (same name (bytes "minimum_standard_deviation")) (same name (bytes "sharpe_ratio")) (same name (bytes "equal_weighting"))
+    (same name (bytes "expected_shortfall")) (same name (bytes "conditional_drawdown_risk")) l (metricNamed name) refl
 
 pub names-table : (n : ℕ) (p r c : Shape) (name : List ℕ) → orElse (absent p && (absent r && absent c)) NoData (andThen (named (metricNamed name)) (orElse (eqb n 0) NoData Done)) ≡ first (namesJudged n p r c name)
 unfolding namesJudged
@@ -131,6 +126,11 @@ length-either : (b : Bool) (x y : List Float) (n : ℕ) → length x ≡ n → l
 length-either true x y n p q = p
 length-either false x y n p q = q
 
+no-both : (a b : Bool) → (a && (b && false)) ≡ false
+no-both true true = refl
+no-both true false = refl
+no-both false b = refl
+
 then-assoc : (a b c : Outcome) → andThen (andThen a b) c ≡ andThen a (andThen b c)
 unfolding andThen
 then-assoc Done b c = refl
@@ -153,13 +153,13 @@ module _ (n h w : ℕ) (cs : Shape) (len : ℕ) (given used : Bool) (method : Li
   pub rows-enough : absent cs ≡ true → 2 ≤ h
   rows-enough t = ltb-false h 2 (rw t at (tests .1))
 
-module _ (n : ℕ) (xs : List Float) (h w : ℕ) (c : List Float) (cs : Shape) (e : List Float) (given : Bool) (m method : List ℕ) (k : Clusters) (d : Distance) (l : Linkage) where
+module _ (n : ℕ) (xs : List Float) (h w : ℕ) (c : List Float) (cs : Shape) (e : List Float) (given : Bool) (m method : List ℕ) (conf : Float) (k : Clusters) (d : Distance) (l : Linkage) where
   abbrev this : Job
-  this = held n xs h w c cs e given m method k d l
+  this = held n xs h w c cs e given m method conf k d l
 
   -- the rule does not look at the columns, nor at the covariance
   abbrev bare : Job
-  bare = held n xs h n [] Absent e given m method k d l
+  bare = held n xs h n [] Absent e given m method conf k d l
 
   same-expected : (g : Bool) → expectedOf bare g ≡ expectedOf this g
   unfolding expectedOf isMean rowsMade cellsMade returnRows returnCells
@@ -167,7 +167,7 @@ module _ (n : ℕ) (xs : List Float) (h w : ℕ) (c : List Float) (cs : Shape) (
   same-expected false = refl
 
   same-rule : usedRule bare ≡ usedRule this
-  unfolding usedRule usedExpected usedMetric
+  unfolding usedRule usedInputs usedExpected usedMetric rowsMade cellsMade returnRows returnCells
   same-rule = rw (same-expected given)
 
   given-used : (s : Shape) → absent s ≡ false → covarianceOf this s ≡ c
@@ -214,7 +214,7 @@ module _ (n : ℕ) (xs : List Float) (h w : ℕ) (c : List Float) (cs : Shape) (
     pub returns-refused : (r : Refusal) → said ≡ Refused r → (room : Room) (rows order : List ℕ) (weights scratch : List Float) → Cleared room rows order weights scratch → Finished this room said rows order weights scratch
     returns-refused r g room rows order weights scratch z = finished-refused this room said r rows order weights scratch (last-said ∙ then-refused said _ r g) g z
 
-    module _ (g : said ≡ Done) (room : Room) (ready : Ready n cs (length c) room) where
+    module _ (g : said ≡ Done) (room : Room) (ready : Ready n cs (length c) room) (ok : first (sizes (length xs) h w) ≡ Done) where
       -- Sharpe's expected returns are one for each asset
       length-expected : (sh gv : Bool) → (sh && (gv && not (eqb (length e) n))) ≡ false → (sh && (true && not (eqb (length (cond sh (expectedOf this gv) [])) n))) ≡ false
       unfolding expectedOf
@@ -223,20 +223,34 @@ module _ (n : ℕ) (xs : List Float) (h w : ℕ) (c : List Float) (cs : Shape) (
       length-expected true false t = rw (length-estimated, eq-eqb n n refl)
 
       expects-pass : (lines : List Line) → first (expectedLines (usedRule this) n ++ lines) ≡ first lines
-      unfolding expectedLines usedRule usedExpected usedMetric
+      unfolding expectedLines usedRule usedInputs usedExpected usedMetric
       expects-pass lines =
           let t : (isSharpe (metricOf (metricNamed m)) && (given && not (eqb (length e) n))) ≡ false = rw u at (expected-test n h w cs (length e) given used method rules expects said a b s g) in
           table-pass _ DimensionMismatch _ (length-expected (isSharpe (metricOf (metricNamed m))) given t)
           ∙ table-pass _ MissingExpectedReturnsForSharpe _ (and-false (isSharpe (metricOf (metricNamed m))))
 
+      -- neither the sizes of its matrices nor the columns of its returns are refused again
+      sizes-right : (len : ℕ) → len ≡ n * n → first (sizeLines (usedRule this) len n n) ≡ Done
+      unfolding sizeLines sizes usedRule usedInputs rowsMade cellsMade returnRows returnCells
+      sizes-right len q =
+          let z : Sized len n n = record { tall = omega (arith, ready .few); wide = ready .few; small = square-in n (ready .few); cells = q } in
+          let t = none (sizes (length xs) h n) (returns-sized n h w cs (length e) given used method rules expects said a b s g (length xs) (ready .few) ok) in
+          table-pass _ OverLimit _ (t .0) ∙ first-done (sizes len n n) _ (sizes-pass len n n z) ∙ table-pass _ SliceLength _ (t .1 .0) ∙ table-end
+
+      shapes-right : first (shapeLines (usedRule this) n n) ≡ Done
+      unfolding shapeLines otherRows usedRule usedInputs usedMetric rowsMade returnRows
+      shapes-right =
+          table-pass _ NoData _ (ready .some)
+          ∙ table-pass _ DimensionMismatch _ (rw (eq-eqb n n refl))
+          ∙ table-pass _ DimensionMismatch _ (rw (eq-eqb n n refl) (no-both (isTailRisk (metricOf (metricNamed m))) (ltb 0 h)))
+          ∙ table-end
+
       share-outcome : (cov : List Float) → usedCovariance this ≡ cov → length cov ≡ n * n → hierarchyOutcome (usedRule this) d l cov n n room ≡ first (lastLines this)
       unfolding hierarchyOutcome hierarchyTable shares
       share-outcome cov v len =
-          let z : Sized (length cov) n n = record { tall = omega (arith, ready .few); wide = ready .few; small = square-in n (ready .few); cells = len } in
-          first-done (sizes (length cov) n n) _ (sizes-pass (length cov) n n z)
+          first-done (sizeLines (usedRule this) (length cov) n n) _ (sizes-right (length cov) len)
           ∙ first-done (roomLines n room) _ (ready .roomy)
-          ∙ table-pass _ NoData _ (ready .some)
-          ∙ table-pass _ DimensionMismatch _ (rw (eq-eqb n n refl))
+          ∙ first-done (shapeLines (usedRule this) n n) _ shapes-right
           ∙ expects-pass _
           ∙ sym (last-said ∙ then-done said _ g ∙ rw v)
 
@@ -256,12 +270,12 @@ module _ (n : ℕ) (xs : List Float) (h w : ℕ) (c : List Float) (cs : Shape) (
 -- ---- calls that have the same returns, and differ in nothing else that is looked at after them
 
 module _ (n : ℕ) (p : List Float) (ps : Shape) (xs : List Float) (rs : Shape) (by : List ℕ) (p′ : List Float) (ps′ : Shape) (xs′ : List Float) (rs′ : Shape) (by′ : List ℕ)
-    (c : List Float) (cs : Shape) (e : List Float) (given : Bool) (m method : List ℕ) (k : Clusters) (d : Distance) (l : Linkage) where
+    (c : List Float) (cs : Shape) (e : List Float) (given : Bool) (m method : List ℕ) (conf : Float) (k : Clusters) (d : Distance) (l : Linkage) where
   abbrev one : Job
-  one = job n p ps xs rs c cs e given m method k by d l
+  one = job n p ps xs rs c cs e given m method conf k by d l
 
   abbrev two : Job
-  two = job n p′ ps′ xs′ rs′ c cs e given m method k by′ d l
+  two = job n p′ ps′ xs′ rs′ c cs e given m method conf k by′ d l
 
   module _ (a : rowsMade one ≡ rowsMade two) (b : columnsMade one ≡ columnsMade two) (f : cellsMade one ≡ cellsMade two) (g : pricesRefused one rs ps ≡ pricesRefused two rs′ ps′) where
     carried-covariance : usedCovariance one ≡ usedCovariance two
@@ -278,49 +292,49 @@ module _ (n : ℕ) (p : List Float) (ps : Shape) (xs : List Float) (rs : Shape) 
     carried-expected false = rw (f, a)
 
     carried-rule : usedRule one ≡ usedRule two
-    unfolding usedRule usedExpected usedMetric
-    carried-rule = rw (carried-expected given)
+    unfolding usedRule usedInputs usedExpected usedMetric
+    carried-rule = rw (carried-expected given, a, f)
 
     carried-lines : lastLines one ≡ lastLines two
     unfolding lastLines matrixRules sharpeLines usedMetric isMean isExponential
-    carried-lines = rw (g, a, b, carried-rule, carried-covariance)
+    carried-lines = rw (carried-rule, carried-covariance, g, a, b)
 
     pub carried : (room : Room) (r : Outcome) (rows order : List ℕ) (weights scratch : List Float) → Finished two room r rows order weights scratch → Finished one room r rows order weights scratch
     carried room r rows order weights scratch z =
         record { answer = z .answer ∙ ap first (sym carried-lines); buffers = rw (carried-lines, carried-rule, carried-covariance) (z .buffers) }
 
-module _ (n : ℕ) (p : List Float) (c : List Float) (cs : Shape) (e : List Float) (given : Bool) (m method : List ℕ) (k : Clusters) (by : List ℕ) (d : Distance) (l : Linkage)
+module _ (n : ℕ) (p : List Float) (c : List Float) (cs : Shape) (e : List Float) (given : Bool) (m method : List ℕ) (conf : Float) (k : Clusters) (by : List ℕ) (d : Distance) (l : Linkage)
     (room : Room) (r : Outcome) (rows order : List ℕ) (weights scratch : List Float) where
   -- returns that are given: prices beside them are not looked at
-  from-returns : (ps : Shape) (xs : List Float) (rs : Shape) (h w : ℕ) → rs ≡ Of h w → Finished (held n xs h w c cs e given m method k d l) room r rows order weights scratch
-      → Finished (job n p ps xs rs c cs e given m method k by d l) room r rows order weights scratch
+  from-returns : (ps : Shape) (xs : List Float) (rs : Shape) (h w : ℕ) → rs ≡ Of h w → Finished (held n xs h w c cs e given m method conf k d l) room r rows order weights scratch
+      → Finished (job n p ps xs rs c cs e given m method conf k by d l) room r rows order weights scratch
   unfolding rowsMade columnsMade cellsMade returnRows returnColumns returnCells pricesRefused
-  from-returns ps xs rs h w q z = rw q (carried n p ps xs (Of h w) by [] Absent xs (Of h w) [] c cs e given m method k d l refl refl refl refl room r rows order weights scratch z)
+  from-returns ps xs rs h w q z = rw q (carried n p ps xs (Of h w) by [] Absent xs (Of h w) [] c cs e given m method conf k d l refl refl refl refl room r rows order weights scratch z)
 
   -- returns that are absent: their slice is not looked at
-  without-slice : (ps : Shape) (xs : List Float) (rs : Shape) → rs ≡ Absent → Finished (job n p ps [] Absent c cs e given m method k by d l) room r rows order weights scratch
-      → Finished (job n p ps xs rs c cs e given m method k by d l) room r rows order weights scratch
+  without-slice : (ps : Shape) (xs : List Float) (rs : Shape) → rs ≡ Absent → Finished (job n p ps [] Absent c cs e given m method conf k by d l) room r rows order weights scratch
+      → Finished (job n p ps xs rs c cs e given m method conf k by d l) room r rows order weights scratch
   unfolding rowsMade columnsMade cellsMade returnRows returnColumns returnCells pricesRefused
   without-slice ps xs rs q z = rw q (go ps z)
     where
-      go : (s : Shape) → Finished (job n p s [] Absent c cs e given m method k by d l) room r rows order weights scratch → Finished (job n p s xs Absent c cs e given m method k by d l) room r rows order weights scratch
-      go Absent y = carried n p Absent xs Absent by p Absent [] Absent by c cs e given m method k d l refl refl refl refl room r rows order weights scratch y
-      go (Of h w) y = carried n p (Of h w) xs Absent by p (Of h w) [] Absent by c cs e given m method k d l refl refl refl refl room r rows order weights scratch y
+      go : (s : Shape) → Finished (job n p s [] Absent c cs e given m method conf k by d l) room r rows order weights scratch → Finished (job n p s xs Absent c cs e given m method conf k by d l) room r rows order weights scratch
+      go Absent y = carried n p Absent xs Absent by p Absent [] Absent by c cs e given m method conf k d l refl refl refl refl room r rows order weights scratch y
+      go (Of h w) y = carried n p (Of h w) xs Absent by p (Of h w) [] Absent by c cs e given m method conf k d l refl refl refl refl room r rows order weights scratch y
 
   -- neither returns nor prices: no rows
-  pub from-nothing : (ps : Shape) → ps ≡ Absent → Finished (held n [] 0 0 c cs e given m method k d l) room r rows order weights scratch
-      → Finished (job n p ps [] Absent c cs e given m method k by d l) room r rows order weights scratch
+  pub from-nothing : (ps : Shape) → ps ≡ Absent → Finished (held n [] 0 0 c cs e given m method conf k d l) room r rows order weights scratch
+      → Finished (job n p ps [] Absent c cs e given m method conf k by d l) room r rows order weights scratch
   unfolding rowsMade columnsMade cellsMade returnRows returnColumns returnCells pricesRefused
-  from-nothing ps q z = rw q (carried n p Absent [] Absent by [] Absent [] (Of 0 0) [] c cs e given m method k d l refl refl refl refl room r rows order weights scratch z)
+  from-nothing ps q z = rw q (carried n p Absent [] Absent by [] Absent [] (Of 0 0) [] c cs e given m method conf k d l refl refl refl refl room r rows order weights scratch z)
 
   -- returns made from prices, in a buffer of 4,096 doubles
   pub from-prices : (h w s cells : ℕ) → cells ≡ 4096 → first (sizes (length p) h w) ≡ Done → s ≡ stepOf by → (a : Answer) → a ≡ madeAnswer p h w s cells
       → (kept v : ℕ) (made : List Float) → a ≡ answer.Matrix kept v → made ≡ madeLaid p h w s cells
-      → Finished (held n (take (kept * w) made) kept w c cs e given m method k d l) room r rows order weights scratch
-      → Finished (job n p (Of h w) [] Absent c cs e given m method k by d l) room r rows order weights scratch
+      → Finished (held n (take (kept * w) made) kept w c cs e given m method conf k d l) room r rows order weights scratch
+      → Finished (job n p (Of h w) [] Absent c cs e given m method conf k by d l) room r rows order weights scratch
   unfolding rowsMade columnsMade cellsMade returnRows returnColumns returnCells pricesRefused
   from-prices h w s cells full ok q a i kept v made g f z =
-      carried n p (Of h w) [] Absent by [] Absent (take (kept * w) made) (Of kept w) [] c cs e given m method k d l
+      carried n p (Of h w) [] Absent by [] Absent (take (kept * w) made) (Of kept w) [] c cs e given m method conf k d l
       (rw (← q) (sym (kept-rows p h w s cells full ok a i kept v made g f)))
       refl
       (rw (← q) (sym (returns-are p h w s cells full ok a i kept v made g f)))
@@ -328,18 +342,18 @@ module _ (n : ℕ) (p : List Float) (c : List Float) (cs : Shape) (e : List Floa
       room r rows order weights scratch z
 
   -- prices of a shape
-  pub of-prices : (ps : Shape) (h w : ℕ) → ps ≡ Of h w → Finished (job n p (Of h w) [] Absent c cs e given m method k by d l) room r rows order weights scratch
-      → Finished (job n p ps [] Absent c cs e given m method k by d l) room r rows order weights scratch
+  pub of-prices : (ps : Shape) (h w : ℕ) → ps ≡ Of h w → Finished (job n p (Of h w) [] Absent c cs e given m method conf k by d l) room r rows order weights scratch
+      → Finished (job n p ps [] Absent c cs e given m method conf k by d l) room r rows order weights scratch
   of-prices ps h w q z = rw q z
 
 -- prices that are refused
-pub prices-refused : (n : ℕ) (p : List Float) (h w : ℕ) (c : List Float) (cs : Shape) (e : List Float) (given : Bool) (m method : List ℕ) (k : Clusters) (by : List ℕ) (d : Distance) (l : Linkage)
+pub prices-refused : (n : ℕ) (p : List Float) (h w : ℕ) (c : List Float) (cs : Shape) (e : List Float) (given : Bool) (m method : List ℕ) (conf : Float) (k : Clusters) (by : List ℕ) (d : Distance) (l : Linkage)
     (s cells : ℕ) → cells ≡ 4096 → first (sizes (length p) h w) ≡ Done → s ≡ stepOf by → (a : Answer) → a ≡ madeAnswer p h w s cells → (f : Refusal) → a ≡ answer.Refused f
     → (room : Room) (rows order : List ℕ) (weights scratch : List Float) → Cleared room rows order weights scratch
-    → Finished (job n p (Of h w) [] Absent c cs e given m method k by d l) room (Refused NoData) rows order weights scratch
+    → Finished (job n p (Of h w) [] Absent c cs e given m method conf k by d l) room (Refused NoData) rows order weights scratch
 unfolding lastLines matrixRules pricesRefused
-prices-refused n p h w c cs e given m method k by d l s cells full ok q a i f g room rows order weights scratch z =
-    finished-refused (job n p (Of h w) [] Absent c cs e given m method k by d l) room (Refused NoData) NoData rows order weights scratch
+prices-refused n p h w c cs e given m method conf k by d l s cells full ok q a i f g room rows order weights scratch z =
+    finished-refused (job n p (Of h w) [] Absent c cs e given m method conf k by d l) room (Refused NoData) NoData rows order weights scratch
     (table-hit _ NoData _ (rw (← q) (none-made p h w s cells full ok a i f g)))
     refl z
 
@@ -374,7 +388,7 @@ module _ (n : ℕ) (ps : Shape) (pl : ℕ) (rs : Shape) (rl : ℕ) (cs : Shape) 
       record {
         prices = sizes-of _ _ (m .prices);
         returns = sizes-of _ _ (m .returns);
-        ready = record { few = m .few; some = t .1 .1 .1 .0; covariance = sizes-of _ _ (m .covariance); roomy = b .0 };
+        ready = record { few = m .few; some = t .1 .1 .0; covariance = sizes-of _ _ (m .covariance); roomy = b .0 };
       }
 
   pub started-without : said ≡ Done → (first (sizesOf ps pl) ≡ Done) × Ready n cs cl room
@@ -408,10 +422,10 @@ module _ (j : Job) (room : Room) where
           record { answer = f .answer ∙ sym o; buffers = rw o (f .buffers) }
 
 -- how each way through a call ends: with what is promised of it
-module _ (n : ℕ) (p : List Float) (ps : Shape) (xs : List Float) (rs : Shape) (c : List Float) (cs : Shape) (e : List Float) (given : Bool) (m method : List ℕ) (k : Clusters) (by : List ℕ) (d : Distance) (l : Linkage)
+module _ (n : ℕ) (p : List Float) (ps : Shape) (xs : List Float) (rs : Shape) (c : List Float) (cs : Shape) (e : List Float) (given : Bool) (m method : List ℕ) (conf : Float) (k : Clusters) (by : List ℕ) (d : Distance) (l : Linkage)
     (room : Room) (said : Outcome) (s : said ≡ first (judgeTable n ps (length p) rs (length xs) cs (length c) m room)) (rows order : List ℕ) (weights scratch : List Float) where
   abbrev call : Job
-  call = job n p ps xs rs c cs e given m method k by d l
+  call = job n p ps xs rs c cs e given m method conf k by d l
 
   abbrev Ended : Outcome → Type 0
   Ended r = Allocated call room r rows order weights scratch × Equally call r rows weights
@@ -422,8 +436,8 @@ module _ (n : ℕ) (p : List Float) (ps : Shape) (xs : List Float) (rs : Shape) 
   pub ended-refused : (f : Refusal) → said ≡ Refused f → Cleared room rows order weights scratch → Ended said
   ended-refused f h z = ended said (ends-refused call room said s rows order weights scratch f h z)
 
-  pub ended-returns : (r : Outcome) (h w : ℕ) → said ≡ Done → rs ≡ Of h w → Finished (held n xs h w c cs e given m method k d l) room r rows order weights scratch → Ended r
-  ended-returns r h w g q z = ended r (ends-done call room said s rows order weights scratch g r (from-returns n p c cs e given m method k by d l room r rows order weights scratch ps xs rs h w q z))
+  pub ended-returns : (r : Outcome) (h w : ℕ) → said ≡ Done → rs ≡ Of h w → Finished (held n xs h w c cs e given m method conf k d l) room r rows order weights scratch → Ended r
+  ended-returns r h w g q z = ended r (ends-done call room said s rows order weights scratch g r (from-returns n p c cs e given m method conf k by d l room r rows order weights scratch ps xs rs h w q z))
 
-  pub ended-without : (r : Outcome) → said ≡ Done → rs ≡ Absent → Finished (job n p ps [] Absent c cs e given m method k by d l) room r rows order weights scratch → Ended r
-  ended-without r g q z = ended r (ends-done call room said s rows order weights scratch g r (without-slice n p c cs e given m method k by d l room r rows order weights scratch ps xs rs q z))
+  pub ended-without : (r : Outcome) → said ≡ Done → rs ≡ Absent → Finished (job n p ps [] Absent c cs e given m method conf k by d l) room r rows order weights scratch → Ended r
+  ended-without r g q z = ended r (ends-done call room said s rows order weights scratch g r (without-slice n p c cs e given m method conf k by d l room r rows order weights scratch ps xs rs q z))

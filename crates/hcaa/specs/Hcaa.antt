@@ -1,4 +1,4 @@
--- HCAA: what `allocate` answers, and what it leaves in each lent buffer, for every input. Document 01, "Order", HCAA. Definitions only.
+-- HCAA: what `allocate` answers, and what it leaves in each lent buffer, for every input. Document 01, "Order", HCAA; document 02, request 1. Definitions only.
 use Prim.Native.Nat.{ℕ, _-_, _*_}
 use mathlib.Core.Path.{_≡_}
 use mathlib.Core.Bool.{Bool, true, false, not, _&&_, cond}
@@ -7,7 +7,7 @@ use lib.Dec.{ltb, eqb}
 use lib.ListN.{length, take}
 use lib.Ieee.{Float}
 use Rattle.refusal.specs.Table.{Line, first}
-use Rattle.refusal.specs.declared.Refusal.the-variants.{NoData, UnknownAllocationMetric, DimensionMismatch, MissingExpectedReturnsForSharpe, UnknownReturns, TailRiskMetric}
+use Rattle.refusal.specs.declared.Refusal.the-variants.{NoData, UnknownAllocationMetric, DimensionMismatch, MissingExpectedReturnsForSharpe, UnknownReturns}
 use Rattle.refusal.specs.declared.Outcome.{Outcome}
 use Rattle.lent.specs.Grid.{grid, tab}
 use Rattle.lent.specs.declared.Shape.{Shape}
@@ -23,7 +23,8 @@ use Rattle.sharing.specs.declared.Metric.{Metric}
 use Rattle.sharing.specs.declared.Metric.the-variants.{EqualWeighting}
 use Rattle.sharing.specs.declared.NamedMetric.{NamedMetric}
 use Rattle.sharing.specs.declared.NamedMetric.the-variants as metric
-use Rattle.sharing.specs.Names.{metricNamed, isTailRisk}
+use Rattle.sharing.specs.Names.{metricNamed}
+use Rattle.sharing.specs.Split.{Inputs, inputs}
 use Rattle.sharing.specs.Down.{isSharpe}
 use Rattle.refusal.specs.declared.Outcome.the-variants.{Done}
 use Rattle.equal.specs.Equal.{EqualShares}
@@ -46,6 +47,7 @@ pub record Job : Type 0 where
   pub expected-given : Bool
   pub metric : List ℕ
   pub method : List ℕ
+  pub confidence : Float
   pub clusters : Clusters
   pub resample-by : List ℕ
   pub distance : Distance
@@ -141,19 +143,24 @@ unfoldable pub countOf : Clusters → ℕ → ℕ
 countOf All n = n
 countOf (Count k) n = k
 
+-- what the metrics read: the expected returns, the rows of returns, and the confidence
+unfoldable pub usedInputs : Job → Inputs
+unfolding usedExpected rowsMade cellsMade
+usedInputs j = inputs (usedExpected j) (cellsMade j) (rowsMade j) (j .confidence)
+
+-- rows that have other columns than n are refused before (3)
 unfoldable pub usedRule : Job → Rule
-unfolding usedMetric usedExpected countOf
-usedRule j = rule (usedMetric j) (usedExpected j) true (countOf (j .clusters) (j .assets))
+unfolding usedMetric usedInputs countOf
+usedRule j = rule (usedMetric j) (usedInputs j) true (j .assets) (countOf (j .clusters) (j .assets))
 
 -- ---- refusals
 
--- "no matrix at all 1; metric 2, then 12; no assets 1"
+-- "no matrix at all 1; metric 2 ..; no assets 1" ("12 is no longer given": document 02, request 1)
 unfoldable pub nameLines : Job → List Line
 unfolding unnamed
 nameLines j =
     (absent (j .prices-shape) && (absent (j .returns-shape) && absent (j .covariance-shape)), NoData)
-    ∷ (unnamed (metricNamed (j .metric)) && not (isTailRisk (j .metric)), UnknownAllocationMetric)
-    ∷ (isTailRisk (j .metric), TailRiskMetric)
+    ∷ (unnamed (metricNamed (j .metric)), UnknownAllocationMetric)
     ∷ (eqb (j .assets) 0, NoData)
     ∷ []
 
@@ -176,6 +183,7 @@ sharpeLines j =
     ∷ (isSharpe (usedMetric j) && (not (j .expected-given) && (not (isMean j) && not (isExponential j))), UnknownReturns)
     ∷ []
 
+-- then 16, 17, 6 and the risk: `shareLines` of the crate hierarchy
 unfoldable pub hcaaTable : Job → Room → List Line
 unfolding nameLines matrixRules sharpeLines usedRule usedCovariance
 hcaaTable j room =
@@ -198,8 +206,8 @@ pub record Equally (j : Job) (r : Outcome) (rows : List ℕ) (weights : List Flo
   pub shares : r ≡ Done → usedMetric j ≡ EqualWeighting
       → EqualShares (j .assets) (countOf (j .clusters) (j .assets)) (take (2 * (j .assets - 1)) rows) (take (j .assets) weights)
 
-abbrev pub job : ℕ → List Float → Shape → List Float → Shape → List Float → Shape → List Float → Bool → List ℕ → List ℕ → Clusters → List ℕ → Distance → Linkage → Job
-job n p ps r rs c cs e eg m me k by d l = record {
+abbrev pub job : ℕ → List Float → Shape → List Float → Shape → List Float → Shape → List Float → Bool → List ℕ → List ℕ → Float → Clusters → List ℕ → Distance → Linkage → Job
+job n p ps r rs c cs e eg m me q k by d l = record {
   assets = n;
   prices = p;
   prices-shape = ps;
@@ -211,6 +219,7 @@ job n p ps r rs c cs e eg m me k by d l = record {
   expected-given = eg;
   metric = m;
   method = me;
+  confidence = q;
   clusters = k;
   resample-by = by;
   distance = d;

@@ -6,7 +6,7 @@ use mathlib.Core.List.{List, [], _∷_, _++_}
 use lib.Dec.{ltb, eqb}
 use lib.Ieee.{Float}
 use Rattle.refusal.specs.Table.{Line, first}
-use Rattle.refusal.specs.declared.Refusal.the-variants.{NoData, UnknownAllocationMetric, DimensionMismatch, MissingExpectedReturnsForSharpe, UnknownReturns, TailRiskMetric}
+use Rattle.refusal.specs.declared.Refusal.the-variants.{NoData, UnknownAllocationMetric, DimensionMismatch, MissingExpectedReturnsForSharpe, UnknownReturns}
 use Rattle.refusal.specs.declared.Outcome.{Outcome}
 use Rattle.refusal.specs.declared.Outcome.the-variants.{Done, Refused}
 use Rattle.lent.specs.Grid.{tab}
@@ -20,7 +20,7 @@ use Rattle.linkage.specs.declared.Distance.{Distance}
 use Rattle.linkage.specs.declared.Linkage.{Linkage}
 use Rattle.sharing.specs.declared.NamedMetric.{NamedMetric}
 use Rattle.sharing.specs.declared.NamedMetric.the-variants as metric
-use Rattle.sharing.specs.Names.{metricNamed, isTailRisk}
+use Rattle.sharing.specs.Names.{metricNamed}
 use Rattle.hierarchy.specs.Hierarchy.{Room, roomLines, shareLines, Laid}
 use Rattle.hcaa.specs.declared.Clusters.{Clusters}
 use Rattle.hcaa.specs.Hcaa.{Job, job, unnamed, matrixRules, sharpeLines, usedRule, usedCovariance}
@@ -37,8 +37,7 @@ unfoldable pub namesJudged : ℕ → Shape → Shape → Shape → List ℕ → 
 unfolding unnamed
 namesJudged n p r c name =
     (absent p && (absent r && absent c), NoData)
-    ∷ (unnamed (metricNamed name) && not (isTailRisk name), UnknownAllocationMetric)
-    ∷ (isTailRisk name, TailRiskMetric)
+    ∷ (unnamed (metricNamed name), UnknownAllocationMetric)
     ∷ (eqb n 0, NoData)
     ∷ []
 
@@ -48,8 +47,8 @@ judgeTable n p pl r rl c cl name room = matrixLines n p pl r rl c cl ++ (roomLin
 
 -- ---- a call that has its returns: h rows of w columns
 
-abbrev pub held : ℕ → List Float → ℕ → ℕ → List Float → Shape → List Float → Bool → List ℕ → List ℕ → Clusters → Distance → Linkage → Job
-held n xs h w c cs e given m method k d l = job n [] Absent xs (Of h w) c cs e given m method k [] d l
+abbrev pub held : ℕ → List Float → ℕ → ℕ → List Float → Shape → List Float → Bool → List ℕ → List ℕ → Float → Clusters → Distance → Linkage → Job
+held n xs h w c cs e given m method q k d l = job n [] Absent xs (Of h w) c cs e given m method q k [] d l
 
 -- what its rows and the shape of its covariance refuse
 unfoldable pub rulesJudged : ℕ → ℕ → ℕ → Shape → List Line

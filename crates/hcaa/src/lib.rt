@@ -18,7 +18,7 @@ ghost use Rattle.refusal.specs.declared.Outcome.the-variants.{Done};
 ghost use Rattle.lent.specs.Lent.{sizes};
 ghost use Rattle.lent.specs.declared.Shape.the-variants.{Absent, Of};
 ghost use Rattle.sharing.specs.Names.{metricNamed};
-ghost use Rattle.sharing.specs.Down.{isSharpe};
+ghost use Rattle.sharing.specs.Split.{inputs};
 ghost use Rattle.hierarchy.specs.Hierarchy.{rule, roomFor, Answered};
 ghost use Rattle.hcaa.specs.Hcaa.{job, metricOf, countOf, usedRule, usedCovariance, Allocated, Equally};
 ghost use Rattle.hcaa.specs.Steps.{named, namesJudged, judgeTable, sizesOf, held, rulesJudged, expectedJudged, estimatesOf, Ready, Finished};
@@ -187,6 +187,7 @@ fn on_estimate(
     covariance: &[f64],
     metric: Metric,
     method: &[u8],
+    confidence: f64,
     count: usize,
     distance: Distance,
     linkage: Linkage,
@@ -197,7 +198,7 @@ fn on_estimate(
 ) -> Outcome
     requires { ⌜ length (now made) ≡ 64 ⌝ }
     requires { ⌜ first (sizes (length (now returns)) height n) ≡ Done ⌝ }
-    ensures { λ r. ⌜ Answered (rule metric (estimatesOf (now (method .entry)) (now (returns .entry)) height n) true count) distance linkage (now (covariance .entry)) n n (roomFor (length (now (rows .entry))) (length (now (order .entry))) (length (now (weights .entry))) (length (now (scratch .entry)))) r (now (rows .exit)) (now (order .exit)) (now (weights .exit)) (now (scratch .exit)) ⌝ }
+    ensures { λ r. ⌜ Answered (rule metric (inputs (estimatesOf (now (method .entry)) (now (returns .entry)) height n) (now (returns .entry)) height confidence) true n count) distance linkage (now (covariance .entry)) n n (roomFor (length (now (rows .entry))) (length (now (order .entry))) (length (now (weights .entry))) (length (now (scratch .entry)))) r (now (rows .exit)) (now (order .exit)) (now (weights .exit)) (now (scratch .exit)) ⌝ }
 {
     estimate(returns, height, n, method, made);
     hierarchy::allocate_covariance(
@@ -207,6 +208,10 @@ fn on_estimate(
         metric,
         &made[..n],
         true,
+        returns,
+        height,
+        n,
+        confidence,
         count,
         distance,
         linkage,
@@ -227,6 +232,7 @@ fn on_covariance(
     expected_given: bool,
     metric: &[u8],
     method: &[u8],
+    confidence: f64,
     clusters: Clusters,
     distance: Distance,
     linkage: Linkage,
@@ -236,7 +242,7 @@ fn on_covariance(
     scratch: &mut [f64],
 ) -> Outcome
     requires { ⌜ first (sizes (length (now returns)) height n) ≡ Done ⌝ }
-    ensures { λ r. ⌜ Answered (usedRule (held n (now (returns .entry)) height n [] Absent (now (expected .entry)) «expected_given» (now (metric .entry)) (now (method .entry)) clusters distance linkage)) distance linkage (now (covariance .entry)) n n (roomFor (length (now (rows .entry))) (length (now (order .entry))) (length (now (weights .entry))) (length (now (scratch .entry)))) r (now (rows .exit)) (now (order .exit)) (now (weights .exit)) (now (scratch .exit)) ⌝ }
+    ensures { λ r. ⌜ Answered (usedRule (held n (now (returns .entry)) height n [] Absent (now (expected .entry)) «expected_given» (now (metric .entry)) (now (method .entry)) confidence clusters distance linkage)) distance linkage (now (covariance .entry)) n n (roomFor (length (now (rows .entry))) (length (now (order .entry))) (length (now (weights .entry))) (length (now (scratch .entry)))) r (now (rows .exit)) (now (order .exit)) (now (weights .exit)) (now (scratch .exit)) ⌝ }
 {
     let used = metric_of(metric);
     let count = count_of(clusters, n);
@@ -251,6 +257,7 @@ fn on_covariance(
             covariance,
             used,
             method,
+            confidence,
             count,
             distance,
             linkage,
@@ -268,6 +275,10 @@ fn on_covariance(
         used,
         &expected[..read],
         true,
+        returns,
+        height,
+        n,
+        confidence,
         count,
         distance,
         linkage,
@@ -288,6 +299,7 @@ fn on_returns_alone(
     expected_given: bool,
     metric: &[u8],
     method: &[u8],
+    confidence: f64,
     clusters: Clusters,
     distance: Distance,
     linkage: Linkage,
@@ -299,7 +311,7 @@ fn on_returns_alone(
     requires { ⌜ length (now made) ≡ 4096 ⌝ }
     requires { ⌜ first (sizes (length (now returns)) height n) ≡ Done ⌝ }
     requires { ⌜ 2 ≤ height ⌝ }
-    ensures { λ r. ⌜ Answered (usedRule (held n (now (returns .entry)) height n [] Absent (now (expected .entry)) «expected_given» (now (metric .entry)) (now (method .entry)) clusters distance linkage)) distance linkage (usedCovariance (held n (now (returns .entry)) height n [] Absent (now (expected .entry)) «expected_given» (now (metric .entry)) (now (method .entry)) clusters distance linkage)) n n (roomFor (length (now (rows .entry))) (length (now (order .entry))) (length (now (weights .entry))) (length (now (scratch .entry)))) r (now (rows .exit)) (now (order .exit)) (now (weights .exit)) (now (scratch .exit)) ⌝ }
+    ensures { λ r. ⌜ Answered (usedRule (held n (now (returns .entry)) height n [] Absent (now (expected .entry)) «expected_given» (now (metric .entry)) (now (method .entry)) confidence clusters distance linkage)) distance linkage (usedCovariance (held n (now (returns .entry)) height n [] Absent (now (expected .entry)) «expected_given» (now (metric .entry)) (now (method .entry)) confidence clusters distance linkage)) n n (roomFor (length (now (rows .entry))) (length (now (order .entry))) (length (now (weights .entry))) (length (now (scratch .entry)))) r (now (rows .exit)) (now (order .exit)) (now (weights .exit)) (now (scratch .exit)) ⌝ }
 {
     stats::covariance(returns, height, n, made);
     let cells = n * n;
@@ -312,6 +324,7 @@ fn on_returns_alone(
         expected_given,
         metric,
         method,
+        confidence,
         clusters,
         distance,
         linkage,
@@ -334,6 +347,7 @@ fn on_returns(
     expected_given: bool,
     metric: &[u8],
     method: &[u8],
+    confidence: f64,
     clusters: Clusters,
     distance: Distance,
     linkage: Linkage,
@@ -344,7 +358,7 @@ fn on_returns(
 ) -> Outcome
     requires { ⌜ first (sizes (length (now returns)) height columns) ≡ Done ⌝ }
     requires { ⌜ Ready n «covariance_shape» (length (now covariance)) (roomFor (length (now rows)) (length (now order)) (length (now weights)) (length (now scratch))) ⌝ }
-    ensures { λ r. ⌜ Finished (held n (now (returns .entry)) height columns (now (covariance .entry)) «covariance_shape» (now (expected .entry)) «expected_given» (now (metric .entry)) (now (method .entry)) clusters distance linkage) (roomFor (length (now (rows .entry))) (length (now (order .entry))) (length (now (weights .entry))) (length (now (scratch .entry)))) r (now (rows .exit)) (now (order .exit)) (now (weights .exit)) (now (scratch .exit)) ⌝ }
+    ensures { λ r. ⌜ Finished (held n (now (returns .entry)) height columns (now (covariance .entry)) «covariance_shape» (now (expected .entry)) «expected_given» (now (metric .entry)) (now (method .entry)) confidence clusters distance linkage) (roomFor (length (now (rows .entry))) (length (now (order .entry))) (length (now (weights .entry))) (length (now (scratch .entry)))) r (now (rows .exit)) (now (order .exit)) (now (weights .exit)) (now (scratch .exit)) ⌝ }
 {
     let rules = judge_rules(n, height, columns, covariance_shape);
     let sharpe = sharing::is_sharpe(metric_of(metric));
@@ -365,6 +379,7 @@ fn on_returns(
             expected_given,
             metric,
             method,
+            confidence,
             clusters,
             distance,
             linkage,
@@ -383,6 +398,7 @@ fn on_returns(
         expected_given,
         metric,
         method,
+        confidence,
         clusters,
         distance,
         linkage,
@@ -406,6 +422,7 @@ fn on_prices(
     expected_given: bool,
     metric: &[u8],
     method: &[u8],
+    confidence: f64,
     clusters: Clusters,
     resample_by: &[u8],
     distance: Distance,
@@ -418,7 +435,7 @@ fn on_prices(
     requires { ⌜ length (now made) ≡ 4096 ⌝ }
     requires { ⌜ first (sizes (length (now prices)) height columns) ≡ Done ⌝ }
     requires { ⌜ Ready n «covariance_shape» (length (now covariance)) (roomFor (length (now rows)) (length (now order)) (length (now weights)) (length (now scratch))) ⌝ }
-    ensures { λ r. ⌜ Finished (job n (now (prices .entry)) (Of height columns) [] Absent (now (covariance .entry)) «covariance_shape» (now (expected .entry)) «expected_given» (now (metric .entry)) (now (method .entry)) clusters (now («resample_by» .entry)) distance linkage) (roomFor (length (now (rows .entry))) (length (now (order .entry))) (length (now (weights .entry))) (length (now (scratch .entry)))) r (now (rows .exit)) (now (order .exit)) (now (weights .exit)) (now (scratch .exit)) ⌝ }
+    ensures { λ r. ⌜ Finished (job n (now (prices .entry)) (Of height columns) [] Absent (now (covariance .entry)) «covariance_shape» (now (expected .entry)) «expected_given» (now (metric .entry)) (now (method .entry)) confidence clusters (now («resample_by» .entry)) distance linkage) (roomFor (length (now (rows .entry))) (length (now (order .entry))) (length (now (weights .entry))) (length (now (scratch .entry)))) r (now (rows .exit)) (now (order .exit)) (now (weights .exit)) (now (scratch .exit)) ⌝ }
 {
     let step = resample::freq_step(resample_by);
     let Answer::Matrix {
@@ -441,6 +458,7 @@ fn on_prices(
         expected_given,
         metric,
         method,
+        confidence,
         clusters,
         distance,
         linkage,
@@ -462,6 +480,7 @@ fn without_returns(
     expected_given: bool,
     metric: &[u8],
     method: &[u8],
+    confidence: f64,
     clusters: Clusters,
     resample_by: &[u8],
     distance: Distance,
@@ -473,7 +492,7 @@ fn without_returns(
 ) -> Outcome
     requires { ⌜ first (sizesOf «prices_shape» (length (now prices))) ≡ Done ⌝ }
     requires { ⌜ Ready n «covariance_shape» (length (now covariance)) (roomFor (length (now rows)) (length (now order)) (length (now weights)) (length (now scratch))) ⌝ }
-    ensures { λ r. ⌜ Finished (job n (now (prices .entry)) «prices_shape» [] Absent (now (covariance .entry)) «covariance_shape» (now (expected .entry)) «expected_given» (now (metric .entry)) (now (method .entry)) clusters (now («resample_by» .entry)) distance linkage) (roomFor (length (now (rows .entry))) (length (now (order .entry))) (length (now (weights .entry))) (length (now (scratch .entry)))) r (now (rows .exit)) (now (order .exit)) (now (weights .exit)) (now (scratch .exit)) ⌝ }
+    ensures { λ r. ⌜ Finished (job n (now (prices .entry)) «prices_shape» [] Absent (now (covariance .entry)) «covariance_shape» (now (expected .entry)) «expected_given» (now (metric .entry)) (now (method .entry)) confidence clusters (now («resample_by» .entry)) distance linkage) (roomFor (length (now (rows .entry))) (length (now (order .entry))) (length (now (weights .entry))) (length (now (scratch .entry)))) r (now (rows .exit)) (now (order .exit)) (now (weights .exit)) (now (scratch .exit)) ⌝ }
 {
     let Shape::Of {
         rows: height,
@@ -491,6 +510,7 @@ fn without_returns(
             expected_given,
             metric,
             method,
+            confidence,
             clusters,
             distance,
             linkage,
@@ -513,6 +533,7 @@ fn without_returns(
         expected_given,
         metric,
         method,
+        confidence,
         clusters,
         resample_by,
         distance,
@@ -537,6 +558,7 @@ pub fn allocate(
     expected_given: bool,
     metric: &[u8],
     method: &[u8],
+    confidence: f64,
     clusters: Clusters,
     resample_by: &[u8],
     distance: Distance,
@@ -546,8 +568,8 @@ pub fn allocate(
     weights: &mut [f64],
     scratch: &mut [f64],
 ) -> Outcome
-    ensures { λ r. ⌜ Allocated (job assets (now (prices .entry)) «prices_shape» (now (returns .entry)) «returns_shape» (now (covariance .entry)) «covariance_shape» (now (expected .entry)) «expected_given» (now (metric .entry)) (now (method .entry)) clusters (now («resample_by» .entry)) distance linkage) (roomFor (length (now (rows .entry))) (length (now (order .entry))) (length (now (weights .entry))) (length (now (scratch .entry)))) r (now (rows .exit)) (now (order .exit)) (now (weights .exit)) (now (scratch .exit)) ⌝ }
-    ensures { λ r. ⌜ Equally (job assets (now (prices .entry)) «prices_shape» (now (returns .entry)) «returns_shape» (now (covariance .entry)) «covariance_shape» (now (expected .entry)) «expected_given» (now (metric .entry)) (now (method .entry)) clusters (now («resample_by» .entry)) distance linkage) r (now (rows .exit)) (now (weights .exit)) ⌝ }
+    ensures { λ r. ⌜ Allocated (job assets (now (prices .entry)) «prices_shape» (now (returns .entry)) «returns_shape» (now (covariance .entry)) «covariance_shape» (now (expected .entry)) «expected_given» (now (metric .entry)) (now (method .entry)) confidence clusters (now («resample_by» .entry)) distance linkage) (roomFor (length (now (rows .entry))) (length (now (order .entry))) (length (now (weights .entry))) (length (now (scratch .entry)))) r (now (rows .exit)) (now (order .exit)) (now (weights .exit)) (now (scratch .exit)) ⌝ }
+    ensures { λ r. ⌜ Equally (job assets (now (prices .entry)) «prices_shape» (now (returns .entry)) «returns_shape» (now (covariance .entry)) «covariance_shape» (now (expected .entry)) «expected_given» (now (metric .entry)) (now (method .entry)) confidence clusters (now («resample_by» .entry)) distance linkage) r (now (rows .exit)) (now (weights .exit)) ⌝ }
 {
     let said = judge(
         assets,
@@ -582,6 +604,7 @@ pub fn allocate(
             expected_given,
             metric,
             method,
+            confidence,
             clusters,
             resample_by,
             distance,
@@ -603,6 +626,7 @@ pub fn allocate(
         expected_given,
         metric,
         method,
+        confidence,
         clusters,
         distance,
         linkage,

@@ -5,6 +5,7 @@ use mathlib.Core.List.{List, [], _∷_, _++_, map}
 use Prim.Native.Nat.{ℕ, _-_, _*_}
 use lib.Count.{trailingZeros}
 use lib.Dec.{eqb}
+use lib.ListN.{replicate}
 use lib.Ieee.{Float, binary64, size, span as ieee-span, climb, odd, units, round, neg, add, sum, sub, mul, div, ofInt, lt, le, eq, isNan, ofFields, ofBits, toBits}
 use Rattle.arithmetic.specs.Constants.{pz}
 use Rattle.arithmetic.specs.Arithmetic.{minOf, maxOf, absOf, clampOf, finiteOf, oneOver}
@@ -25,11 +26,13 @@ use Rattle.linkage.specs.declared.Linkage.the-variants.{Single}
 use Rattle.clusters.specs.Clusters.{recip, recipSum, shares, term, varianceOf, outside, anyLow as anyLowOf, riskTable, sizeTable, sharesOutcome, varianceOutcome, varianceAnswer}
 use Rattle.clusters.specs.Shares.{isNone, weightsIn}
 use Rattle.parity.specs.Parity.{correlationsOf, treeDistances}
-use Rattle.sharing.specs.declared.Metric.the-variants.{MinimumVariance, SharpeRatio, EqualWeighting}
-use Rattle.sharing.specs.Split.{bounded, splitBy, byRisk, scored, splitOf}
+use Rattle.ordering.specs.Nearest.{noPart}
+use Rattle.sharing.specs.declared.Metric.{Metric}
+use Rattle.sharing.specs.declared.Metric.the-variants.{MinimumVariance, SharpeRatio, EqualWeighting, ExpectedShortfall}
+use Rattle.sharing.specs.Split.{Inputs, inputs, bounded, splitBy, byRisk, scored, splitOf}
 use Rattle.sharing.specs.Allot.{spreadOf, equalOf, dealTo, variedOf, insideOf, allotted, sharesOf}
-use Rattle.sharing.specs.Down.{isSharpe}
-use Rattle.hierarchy.specs.Hierarchy.{Rule, rule, Room, roomFor, distancesOf, rowsOf, orderOf, weightsOf, roomLines, expectedLines, shareLines, hierarchyTable, hierarchyOutcome}
+use Rattle.sharing.specs.Down.{isSharpe, isTailRisk, tailLines, otherRows}
+use Rattle.hierarchy.specs.Hierarchy.{Rule, rule, Room, roomFor, distancesOf, rowsOf, orderOf, weightsOf, roomLines, sizeLines, shapeLines, expectedLines, shareLines, hierarchyTable, hierarchyOutcome}
 
 abbrev all : List Bool → Bool
 all [] = true
@@ -63,8 +66,20 @@ weights q cov n = answer (hierarchyOutcome q Correlation Single (doubles cov) n 
 abbrev refused : Rule → List ℕ → ℕ → ℕ → Room → List ℕ
 refused q cov rows w r = told (hierarchyOutcome q Correlation Single (doubles cov) rows w r)
 
+-- no expected returns and no return rows
+abbrev none : Inputs
+none = inputs [] [] 0 pz
+
 abbrev equal : ℕ → Rule
-equal k = rule EqualWeighting [] false k
+equal k = rule EqualWeighting none false 0 k
+
+-- expected returns of no entries, given or not
+abbrev expecting : Metric → Bool → Rule
+expecting m g = rule m none g 0 0
+
+-- return rows of so many columns in a slice of so many, and the bits of a confidence; 0 clusters
+abbrev tailed : Metric → ℕ → ℕ → ℕ → ℕ → Rule
+tailed m len rows w q = rule m (inputs [] (replicate len pz) rows (ofBits binary64 q)) false w 0
 
 -- the bits of 0, 1/4, the double nearest 1/3, 1/2, 1, the root of 2, and infinity
 abbrev p0 : ℕ
@@ -87,6 +102,10 @@ apart = 0x3ff6_a09e_667f_3bcd
 
 abbrev big : ℕ
 big = 0x7ff0_0000_0000_0000
+
+-- and of a NaN
+abbrev dark : ℕ
+dark = 0x7ff8_0000_0000_0000
 
 -- the job: A and B have covariance 0.5, C is alone
 abbrev job : List ℕ
@@ -118,17 +137,32 @@ refusals =
     same (refused (equal 1) (diagonal p0 one) 2 2 (room 2)) (1 ∷ [])
     ∷ same (refused (equal 3) (diagonal p0 one) 2 2 (room 2)) (6 ∷ 3 ∷ 2 ∷ [])
     -- Sharpe's 3 and 4 before 6, and for Sharpe alone
-    ∷ same (refused (rule SharpeRatio [] true 0) (diagonal one one) 2 2 (room 2)) (3 ∷ [])
-    ∷ same (refused (rule SharpeRatio [] false 0) (diagonal one one) 2 2 (room 2)) (4 ∷ [])
-    ∷ same (refused (rule MinimumVariance [] true 0) (diagonal one one) 2 2 (room 2)) (6 ∷ 0 ∷ 2 ∷ [])
+    ∷ same (refused (expecting SharpeRatio true) (diagonal one one) 2 2 (room 2)) (3 ∷ [])
+    ∷ same (refused (expecting SharpeRatio false) (diagonal one one) 2 2 (room 2)) (4 ∷ [])
+    ∷ same (refused (expecting MinimumVariance true) (diagonal one one) 2 2 (room 2)) (6 ∷ 0 ∷ 2 ∷ [])
     -- no assets before another size, and that before Sharpe's; 11 before both; 10 before 11
     ∷ same (refused (equal 0) [] 2 0 (room 0)) (1 ∷ [])
-    ∷ same (refused (rule SharpeRatio [] false 0) (one ∷ one ∷ []) 1 2 (room 2)) (3 ∷ [])
+    ∷ same (refused (expecting SharpeRatio false) (one ∷ one ∷ []) 1 2 (room 2)) (3 ∷ [])
     ∷ same (refused (equal 0) [] 2 0 (roomFor 0 0 0 8191)) (11 ∷ [])
     ∷ same (refused (equal 0) (one ∷ one ∷ []) 1 2 (roomFor 1 2 2 8192)) (11 ∷ [])
     ∷ same (refused (equal 0) (one ∷ []) 1 2 (room 1)) (10 ∷ [])
     ∷ []
 
-pub figures : all of-scope && all refusals ≡ true
-unfolding distancesOf rowsOf orderOf weightsOf roomLines expectedLines shareLines hierarchyTable hierarchyOutcome correlationsOf treeDistances isSharpe sharesOf allotted insideOf variedOf equalOf spreadOf dealTo splitOf scored byRisk splitBy bounded first laid overLimit otherLength sizes tab grid sumTo sumOn sumRows anyTo range span isNone weightsIn recip recipSum shares term varianceOf outside anyLowOf riskTable sizeTable sharesOutcome varianceOutcome varianceAnswer correlationCell anyLow clamped distanceOf distanceCell offDiagonal square between betweenCell wardF updateF before near better lesser greater offer look scanRow scanFrom scanAll both movable moved movedAll merged step copied numbered start stateAt mergeRows grow treeAt leaves minOf maxOf absOf clampOf finiteOf oneOver root isqrt lt le eq isNan neg add sum sub mul div ofInt round units odd trailingZeros size ieee-span climb ofFields ofBits toBits
+-- document 02, request 1: "16, no return rows, comes .. before 6; 17, under these two metrics, confidence NaN or outside 0 to 1, right after 16"
+abbrev of-tails : List Bool
+of-tails =
+    same (refused (tailed ExpectedShortfall 0 0 0 dark) (diagonal one one) 2 2 (room 2)) (16 ∷ [])
+    ∷ same (refused (tailed ExpectedShortfall 2 1 2 dark) (diagonal one one) 2 2 (room 2)) (17 ∷ [])
+    ∷ same (refused (tailed ExpectedShortfall 2 1 2 big) (diagonal one one) 2 2 (room 2)) (17 ∷ [])
+    ∷ same (refused (tailed ExpectedShortfall 2 1 2 one) (diagonal one one) 2 2 (room 2)) (6 ∷ 0 ∷ 2 ∷ [])
+    -- rows of another width are 3 where they are read
+    ∷ same (refused (tailed ExpectedShortfall 1 1 1 dark) (diagonal one one) 2 2 (room 2)) (3 ∷ [])
+    ∷ same (refused (tailed MinimumVariance 1 1 1 dark) (diagonal one one) 2 2 (room 2)) (6 ∷ 0 ∷ 2 ∷ [])
+    -- their 9 before any 10, and their 10 before 11
+    ∷ same (refused (tailed MinimumVariance 1 4097 0 dark) (one ∷ []) 2 2 (room 2)) (9 ∷ [])
+    ∷ same (refused (tailed MinimumVariance 1 1 2 dark) (diagonal one one) 2 2 (room 1)) (10 ∷ [])
+    ∷ []
+
+pub figures : all of-scope && (all refusals && all of-tails) ≡ true
+unfolding distancesOf rowsOf orderOf weightsOf roomLines sizeLines shapeLines isTailRisk tailLines otherRows noPart expectedLines shareLines hierarchyTable hierarchyOutcome correlationsOf treeDistances isSharpe sharesOf allotted insideOf variedOf equalOf spreadOf dealTo splitOf scored byRisk splitBy bounded first laid overLimit otherLength sizes tab grid sumTo sumOn sumRows anyTo range span isNone weightsIn recip recipSum shares term varianceOf outside anyLowOf riskTable sizeTable sharesOutcome varianceOutcome varianceAnswer correlationCell anyLow clamped distanceOf distanceCell offDiagonal square between betweenCell wardF updateF before near better lesser greater offer look scanRow scanFrom scanAll both movable moved movedAll merged step copied numbered start stateAt mergeRows grow treeAt leaves minOf maxOf absOf clampOf finiteOf oneOver root isqrt lt le eq isNan neg add sum sub mul div ofInt round units odd trailingZeros size ieee-span climb ofFields ofBits toBits
 figures = refl

@@ -8,10 +8,10 @@ use lib.ListN.{length}
 use lib.Ieee.{Float}
 use Rattle.arithmetic.specs.Constants.{pz}
 use Rattle.refusal.specs.Table.{Line, first}
-use Rattle.refusal.specs.declared.Refusal.the-variants.{NoData, DimensionMismatch, MissingExpectedReturnsForSharpe, InvalidNumClusters, ShortBuffer}
+use Rattle.refusal.specs.declared.Refusal.the-variants.{NoData, DimensionMismatch, MissingExpectedReturnsForSharpe, InvalidNumClusters, OverLimit, SliceLength, ShortBuffer}
 use Rattle.refusal.specs.declared.Outcome.{Outcome}
 use Rattle.lent.specs.Grid.{grid, zeros, noughts}
-use Rattle.lent.specs.Lent.{least-scratch, sizes, laid}
+use Rattle.lent.specs.Lent.{least-scratch, overLimit, otherLength, sizes, laid}
 use Rattle.stats.specs.Covariance.{anyLow}
 use Rattle.distances.specs.Distances.{distanceCell}
 use Rattle.distances.specs.declared.Measure.the-variants.{Hcaa}
@@ -22,8 +22,9 @@ use Rattle.linkage.specs.declared.Linkage.{Linkage}
 use Rattle.clusters.specs.Shares.{Shares, isNone, weightsIn}
 use Rattle.parity.specs.Parity.{correlationsOf, treeDistances}
 use Rattle.sharing.specs.declared.Metric.{Metric}
+use Rattle.sharing.specs.Split.{Inputs}
 use Rattle.sharing.specs.Allot.{sharesOf}
-use Rattle.sharing.specs.Down.{isSharpe}
+use Rattle.sharing.specs.Down.{isSharpe, otherRows, tailLines}
 
 -- ---- the steps
 
@@ -39,20 +40,21 @@ unfoldable pub orderOf : Distance → Linkage → List Float → ℕ → List �
 unfolding rowsOf
 orderOf d l cov n = leavesOf (rowsOf d l cov n) n (2 * n - 2)
 
--- how the money is shared out: by a metric, with the expected returns that Sharpe reads, into k clusters
+-- how the money is shared out: by a metric, with what the metrics read beside the covariance (the rows of returns have so many columns), into k clusters
 pub record Rule : Type 0 where
   pub metric : Metric
-  pub expected : List Float
+  pub inputs : Inputs
   pub expected-given : Bool
+  pub return-columns : ℕ
   pub clusters : ℕ
 
-abbrev pub rule : Metric → List Float → Bool → ℕ → Rule
-rule m e g k = record { metric = m; expected = e; expected-given = g; clusters = k }
+abbrev pub rule : Metric → Inputs → Bool → ℕ → ℕ → Rule
+rule m x g w k = record { metric = m; inputs = x; expected-given = g; return-columns = w; clusters = k }
 
 -- "HCAA recursion starts at node 2n − 2 with weight 1 and walks down", over the tree's own rows
 unfoldable pub weightsOf : Rule → Distance → Linkage → List Float → ℕ → Shares
 unfolding rowsOf
-weightsOf q d l cov n = sharesOf (q .metric) (q .expected) cov (rowsOf d l cov n) n (q .clusters)
+weightsOf q d l cov n = sharesOf (q .metric) (q .inputs) cov (rowsOf d l cov n) n (q .clusters)
 
 -- ---- refusals
 
@@ -78,25 +80,35 @@ roomLines n room =
 -- "Sharpe: expected length other than n 3, else 4"
 unfoldable pub expectedLines : Rule → ℕ → List Line
 expectedLines q n =
-    (isSharpe (q .metric) && (q .expected-given && not (eqb (length (q .expected)) n)), DimensionMismatch)
+    (isSharpe (q .metric) && (q .expected-given && not (eqb (length (q .inputs .expected)) n)), DimensionMismatch)
     ∷ (isSharpe (q .metric) && not (q .expected-given), MissingExpectedReturnsForSharpe)
     ∷ []
 
--- "6; a variance ≤ 0 1; a side, or (not under equal weighting) a cut cluster, whose reciprocal variances sum to ≤ 0 1"
+-- document 02, request 1: 16 and 17, "before 6"; "6; a variance ≤ 0 1; a side, or (not under equal weighting) a cut cluster, whose reciprocal variances sum to ≤ 0 1"
 unfoldable pub shareLines : Rule → Distance → Linkage → List Float → ℕ → List Line
 unfolding weightsOf
 shareLines q d l cov n =
-    (eqb (q .clusters) 0 || ltb n (q .clusters), InvalidNumClusters (q .clusters) n)
+    tailLines (q .metric) (q .inputs)
+    ++ ((eqb (q .clusters) 0 || ltb n (q .clusters), InvalidNumClusters (q .clusters) n)
     ∷ (anyLow cov n, NoData)
     ∷ (isNone (weightsOf q d l cov n), NoData)
-    ∷ []
+    ∷ [])
 
--- 9, 10, 11; no assets 1; covariance size 3; Sharpe 3, 4; 6; variance 1; sharing 1
+-- 9 and 10, of the covariance in a slice of len numbers and of the rows of returns
+unfoldable pub sizeLines : Rule → ℕ → ℕ → ℕ → List Line
+sizeLines q len rows w =
+    (overLimit (q .inputs .return-rows) (q .return-columns), OverLimit)
+    ∷ (sizes len rows w ++ ((otherLength (length (q .inputs .returns)) (q .inputs .return-rows) (q .return-columns), SliceLength) ∷ []))
+
+-- no assets 1; covariance size 3; "return rows present with columns other than n 3", where they are read
+unfoldable pub shapeLines : Rule → ℕ → ℕ → List Line
+shapeLines q rows w = (eqb w 0, NoData) ∷ (not (eqb rows w), DimensionMismatch) ∷ (otherRows (q .metric) (q .inputs) (q .return-columns) w, DimensionMismatch) ∷ []
+
+-- 9, 10, 11; 1; 3; Sharpe 3, 4; 16, 17; 6; variance 1; sharing 1
 unfoldable pub hierarchyTable : Rule → Distance → Linkage → List Float → ℕ → ℕ → Room → List Line
-unfolding roomLines expectedLines shareLines
+unfolding roomLines sizeLines shapeLines expectedLines shareLines
 hierarchyTable q d l cov rows w room =
-    sizes (length cov) rows w
-    ++ (roomLines w room ++ ((eqb w 0, NoData) ∷ (not (eqb rows w), DimensionMismatch) ∷ (expectedLines q w ++ shareLines q d l cov w)))
+    sizeLines q (length cov) rows w ++ (roomLines w room ++ (shapeLines q rows w ++ (expectedLines q w ++ shareLines q d l cov w)))
 
 unfoldable pub hierarchyOutcome : Rule → Distance → Linkage → List Float → ℕ → ℕ → Room → Outcome
 unfolding hierarchyTable

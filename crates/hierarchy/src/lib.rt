@@ -8,21 +8,26 @@ use refusal::Refusal;
 use sharing::Metric;
 use tree::Node;
 ghost use mathlib.Core.Path.{_≡_};
-ghost use mathlib.Core.Bool.{true};
-ghost use Prim.Native.Nat.{_-_, _*_, _≤_};
+ghost use mathlib.Core.Bool.{Bool, true};
+ghost use mathlib.Core.List.{List};
+ghost use Prim.Native.Nat.{ℕ, _-_, _*_, _≤_};
 ghost use lib.ListN.{length};
+ghost use lib.Ieee.{Float};
 ghost use Rattle.arithmetic.specs.Constants.{pz};
-ghost use Rattle.refusal.specs.Table.{first};
-ghost use Rattle.lent.specs.Lent.{laid};
+ghost use Rattle.refusal.specs.Table.{first, andThen};
+ghost use Rattle.lent.specs.Grid.{zeros};
+ghost use Rattle.lent.specs.Lent.{least-scratch, laid};
 ghost use Rattle.linkage.specs.Merge.{mergeRows};
 ghost use Rattle.clusters.specs.Shares.{weightsIn};
 ghost use Rattle.tree.specs.Rows.{isTree};
 ghost use Rattle.parity.specs.Parity.{treeDistances};
 ghost use Rattle.parity.specs.Steps.{Assets};
+ghost use Rattle.sharing.specs.Split.{inputs};
 ghost use Rattle.sharing.specs.Allot.{sharesOf};
-ghost use Rattle.sharing.specs.Down.{isSharpe};
-ghost use Rattle.hierarchy.specs.Hierarchy.{rule, roomFor, roomLines, Laid, Answered, Cleared};
-ghost use Rattle.hierarchy.specs.Steps.{shapeLines, ruleLines, judgeTable, riskLines, Ruled, Judged, Exact, exact, Arranged, shareOutcome, Made};
+ghost use Rattle.sharing.specs.Down.{tailLines};
+ghost use Rattle.sharing.specs.declared.Metric.{Metric};
+ghost use Rattle.hierarchy.specs.Hierarchy.{rule, roomFor, roomLines, sizeLines, shapeLines, Laid, Answered, Cleared};
+ghost use Rattle.hierarchy.specs.Steps.{ruleLines, judgeTable, riskLines, Ruled, Judged, Exact, exact, Arranged, Planted, shareOutcome, Made};
 
 // The tree of n by n distances; room is for the distances of distances.
 fn link(
@@ -113,29 +118,65 @@ fn grow(
     arrange_in(distance, linkage, n, corr, &mut room, rows, order);
 }
 
-// The weights down the tree; refuses a side or a cut cluster.
+// The tree of a covariance, and its leaf order; refuses a variance. The correlations stand in corr.
+fn plant(
+    distance: Distance,
+    linkage: Linkage,
+    cov: &[f64],
+    n: usize,
+    corr: &mut [f64],
+    rows: &mut [usize],
+    order: &mut [usize],
+) -> Outcome
+    requires { ⌜ Assets n ⌝ }
+    requires { ⌜ length (now cov) ≡ n * n ⌝ }
+    requires { ⌜ length (now corr) ≡ n * n ⌝ }
+    requires { ⌜ length (now rows) ≡ 2 * (n - 1) ⌝ }
+    requires { ⌜ length (now order) ≡ n ⌝ }
+    ensures { λ r. ⌜ Planted distance linkage (now (cov .entry)) n r (now (rows .exit)) (now (order .exit)) ⌝ }
+{
+    let low = lent::told(stats::cov2corr(cov, n, n, corr));
+    let Outcome::Done = low else {
+        return low;
+    };
+    grow(distance, linkage, n, corr, rows, order);
+    low
+}
+
+// The weights down the tree; refuses a side or a cut cluster. Scratch is zero at the end, whatever was in it.
 fn share(
     metric: Metric,
     expected: &[f64],
     given: bool,
+    returns: &[f64],
+    return_rows: usize,
+    return_columns: usize,
+    confidence: f64,
     clusters: usize,
     cov: &[f64],
     n: usize,
     rows: &[usize],
     weights: &mut [f64],
+    scratch: &mut [f64],
 ) -> Outcome
     requires { ⌜ Assets n ⌝ }
-    requires { ⌜ Ruled (rule metric (now expected) given clusters) n ⌝ }
+    requires { ⌜ Ruled (rule metric (inputs (now expected) (now returns) «return_rows» confidence) given «return_columns» clusters) n ⌝ }
     requires { ⌜ length (now cov) ≡ n * n ⌝ }
     requires { ⌜ isTree (now rows) n ≡ true ⌝ }
     requires { ⌜ length (now weights) ≡ n ⌝ }
-    ensures { λ r. ⌜ r ≡ shareOutcome (rule metric (now (expected .entry)) given clusters) (now (cov .entry)) n (now (rows .entry)) ⌝ }
-    ensures { λ r. ⌜ now (weights .exit) ≡ laid pz (shareOutcome (rule metric (now (expected .entry)) given clusters) (now (cov .entry)) n (now (rows .entry))) n (weightsIn (sharesOf metric (now (expected .entry)) (now (cov .entry)) (now (rows .entry)) n clusters)) ⌝ }
+    requires { ⌜ least-scratch ≤ length (now scratch) ⌝ }
+    ensures { λ r. ⌜ r ≡ shareOutcome (rule metric (inputs (now (expected .entry)) (now (returns .entry)) «return_rows» confidence) given «return_columns» clusters) (now (cov .entry)) n (now (rows .entry)) ⌝ }
+    ensures { λ r. ⌜ now (weights .exit) ≡ laid pz (shareOutcome (rule metric (inputs (now (expected .entry)) (now (returns .entry)) «return_rows» confidence) given «return_columns» clusters) (now (cov .entry)) n (now (rows .entry))) n (weightsIn (sharesOf metric (inputs (now (expected .entry)) (now (returns .entry)) «return_rows» confidence) (now (cov .entry)) (now (rows .entry)) n clusters)) ⌝ }
+    ensures { λ _. ⌜ now (scratch .exit) ≡ zeros (length (now (scratch .entry))) ⌝ }
 {
     lent::told(sharing::allocate_down_tree(
         metric,
         expected,
         given,
+        returns,
+        return_rows,
+        return_columns,
+        confidence,
         cov,
         n,
         n,
@@ -143,14 +184,19 @@ fn share(
         n,
         clusters,
         weights,
+        scratch,
     ))
 }
 
-// All the steps, into buffers of just their sizes: a variance is refused by the correlations, a side or a cut cluster by the weights.
+// All the steps, into buffers of just their sizes: a variance is refused by the correlations, in the front of scratch; a side or a cut cluster by the weights.
 fn work(
     metric: Metric,
     expected: &[f64],
     given: bool,
+    returns: &[f64],
+    return_rows: usize,
+    return_columns: usize,
+    confidence: f64,
     clusters: usize,
     distance: Distance,
     linkage: Linkage,
@@ -162,23 +208,28 @@ fn work(
     scratch: &mut [f64],
 ) -> Outcome
     requires { ⌜ Exact n (now cov) (now rows) (now order) (now weights) (now scratch) ⌝ }
-    requires { ⌜ Ruled (rule metric (now expected) given clusters) n ⌝ }
-    ensures { λ r. ⌜ Made (rule metric (now (expected .entry)) given clusters) distance linkage (now (cov .entry)) n r (now (rows .exit)) (now (order .exit)) (now (weights .exit)) ⌝ }
+    requires { ⌜ Ruled (rule metric (inputs (now expected) (now returns) «return_rows» confidence) given «return_columns» clusters) n ⌝ }
+    ensures { λ r. ⌜ Made (rule metric (inputs (now (expected .entry)) (now (returns .entry)) «return_rows» confidence) given «return_columns» clusters) distance linkage (now (cov .entry)) n (length (now (scratch .entry))) r (now (rows .exit)) (now (order .exit)) (now (weights .exit)) (now (scratch .exit)) ⌝ }
 {
-    let low = lent::told(stats::cov2corr(cov, n, n, scratch));
+    let m = n * n;
+    let low = plant(distance, linkage, cov, n, &mut scratch[..m], rows, order);
     let Outcome::Done = low else {
         return low;
     };
-    grow(distance, linkage, n, scratch, rows, order);
     share(
         metric,
         expected,
         given,
+        returns,
+        return_rows,
+        return_columns,
+        confidence,
         clusters,
         cov,
         n,
         &rows[..],
         weights,
+        scratch,
     )
 }
 
@@ -192,11 +243,15 @@ pub fn clear_all(rows: &mut [usize], order: &mut [usize], weights: &mut [f64], s
     lent::clear(scratch); // and what was worked out in it
 }
 
-// The steps, and zeros at the end in all that is not the answer.
+// The steps, and zeros at the end in all that is not the answer: sharing has left scratch so.
 fn settle(
     metric: Metric,
     expected: &[f64],
     given: bool,
+    returns: &[f64],
+    return_rows: usize,
+    return_columns: usize,
+    confidence: f64,
     clusters: usize,
     distance: Distance,
     linkage: Linkage,
@@ -208,14 +263,18 @@ fn settle(
     scratch: &mut [f64],
 ) -> Outcome
     requires { ⌜ Exact n (now cov) (now rows) (now order) (now weights) (now scratch) ⌝ }
-    requires { ⌜ Ruled (rule metric (now expected) given clusters) n ⌝ }
-    ensures { λ r. ⌜ r ≡ first (riskLines (rule metric (now (expected .entry)) given clusters) distance linkage (now (cov .entry)) n) ⌝ }
-    ensures { λ r. ⌜ Laid (first (riskLines (rule metric (now (expected .entry)) given clusters) distance linkage (now (cov .entry)) n)) (rule metric (now (expected .entry)) given clusters) distance linkage (now (cov .entry)) n (exact n) (now (rows .exit)) (now (order .exit)) (now (weights .exit)) (now (scratch .exit)) ⌝ }
+    requires { ⌜ Ruled (rule metric (inputs (now expected) (now returns) «return_rows» confidence) given «return_columns» clusters) n ⌝ }
+    ensures { λ r. ⌜ r ≡ first (riskLines (rule metric (inputs (now (expected .entry)) (now (returns .entry)) «return_rows» confidence) given «return_columns» clusters) distance linkage (now (cov .entry)) n) ⌝ }
+    ensures { λ r. ⌜ Laid (first (riskLines (rule metric (inputs (now (expected .entry)) (now (returns .entry)) «return_rows» confidence) given «return_columns» clusters) distance linkage (now (cov .entry)) n)) (rule metric (inputs (now (expected .entry)) (now (returns .entry)) «return_rows» confidence) given «return_columns» clusters) distance linkage (now (cov .entry)) n (exact n (length (now (scratch .entry)))) (now (rows .exit)) (now (order .exit)) (now (weights .exit)) (now (scratch .exit)) ⌝ }
 {
     let said = work(
         metric,
         expected,
         given,
+        returns,
+        return_rows,
+        return_columns,
+        confidence,
         clusters,
         distance,
         linkage,
@@ -230,15 +289,18 @@ fn settle(
         clear_all(rows, order, weights, scratch);
         return said;
     };
-    lent::clear(scratch); // correlations, or distances of distances, were in it
     said
 }
 
-// The steps, in the fronts of larger buffers, which come in zero.
+// The steps, in the fronts of larger buffers, which come in zero, and all of scratch.
 fn run(
     metric: Metric,
     expected: &[f64],
     given: bool,
+    returns: &[f64],
+    return_rows: usize,
+    return_columns: usize,
+    confidence: f64,
     clusters: usize,
     distance: Distance,
     linkage: Linkage,
@@ -250,17 +312,20 @@ fn run(
     scratch: &mut [f64],
 ) -> Outcome
     requires { ⌜ Judged n (length (now cov)) (roomFor (length (now rows)) (length (now order)) (length (now weights)) (length (now scratch))) ⌝ }
-    requires { ⌜ Ruled (rule metric (now expected) given clusters) n ⌝ }
+    requires { ⌜ Ruled (rule metric (inputs (now expected) (now returns) «return_rows» confidence) given «return_columns» clusters) n ⌝ }
     requires { ⌜ Cleared (roomFor (length (now rows)) (length (now order)) (length (now weights)) (length (now scratch))) (now rows) (now order) (now weights) (now scratch) ⌝ }
-    ensures { λ r. ⌜ r ≡ first (riskLines (rule metric (now (expected .entry)) given clusters) distance linkage (now (cov .entry)) n) ⌝ }
-    ensures { λ r. ⌜ Laid (first (riskLines (rule metric (now (expected .entry)) given clusters) distance linkage (now (cov .entry)) n)) (rule metric (now (expected .entry)) given clusters) distance linkage (now (cov .entry)) n (roomFor (length (now (rows .entry))) (length (now (order .entry))) (length (now (weights .entry))) (length (now (scratch .entry)))) (now (rows .exit)) (now (order .exit)) (now (weights .exit)) (now (scratch .exit)) ⌝ }
+    ensures { λ r. ⌜ r ≡ first (riskLines (rule metric (inputs (now (expected .entry)) (now (returns .entry)) «return_rows» confidence) given «return_columns» clusters) distance linkage (now (cov .entry)) n) ⌝ }
+    ensures { λ r. ⌜ Laid (first (riskLines (rule metric (inputs (now (expected .entry)) (now (returns .entry)) «return_rows» confidence) given «return_columns» clusters) distance linkage (now (cov .entry)) n)) (rule metric (inputs (now (expected .entry)) (now (returns .entry)) «return_rows» confidence) given «return_columns» clusters) distance linkage (now (cov .entry)) n (roomFor (length (now (rows .entry))) (length (now (order .entry))) (length (now (weights .entry))) (length (now (scratch .entry)))) (now (rows .exit)) (now (order .exit)) (now (weights .exit)) (now (scratch .exit)) ⌝ }
 {
     let k = 2 * (n - 1);
-    let m = n * n;
     settle(
         metric,
         expected,
         given,
+        returns,
+        return_rows,
+        return_columns,
+        confidence,
         clusters,
         distance,
         linkage,
@@ -269,7 +334,7 @@ fn run(
         &mut rows[..k],
         &mut order[..n],
         &mut weights[..n],
-        &mut scratch[..m],
+        scratch,
     )
 }
 
@@ -287,21 +352,69 @@ pub fn judge_rooms(n: usize, rows: usize, order: usize, weights: usize, scratch:
     refusal::refuse(lent::lacks_rows(rows, n), Refusal::ShortBuffer, o)
 }
 
-// No assets, then another size than theirs.
-fn judge_shape(rows_in: usize, columns: usize) -> Outcome
-    ensures { λ r. ⌜ r ≡ first (shapeLines «rows_in» columns) ⌝ }
+// The sizes of the covariance and of the rows of returns, whatever else the rule says.
+fn judge_sizes(
+    len: usize,
+    rows_in: usize,
+    columns: usize,
+    returns: &[f64],
+    return_rows: usize,
+    return_columns: usize,
+) -> Outcome
+    ensures { λ r. ⌜ ((metric : Metric) (e : List Float) (q : Float) (g : Bool) (k : ℕ) → r ≡ first (sizeLines (rule metric (inputs e (now (returns .entry)) «return_rows» q) g «return_columns» k) len «rows_in» columns)) ⌝ }
 {
-    let o = refusal::refuse(
-        rows_in != columns,
-        Refusal::DimensionMismatch,
-        Outcome::Done,
+    let other = lent::has_other_length(returns.len(), return_rows, return_columns);
+    let o = refusal::refuse(other, Refusal::SliceLength, Outcome::Done);
+    let o = refusal::and_then(lent::sized(len, rows_in, columns), o);
+    refusal::refuse(
+        lent::over_limit(return_rows, return_columns),
+        Refusal::OverLimit,
+        o,
+    )
+}
+
+// No assets, then another size than theirs, then return rows of another width, whatever else the rule says.
+fn judge_shape(
+    metric: Metric,
+    return_rows: usize,
+    return_columns: usize,
+    rows_in: usize,
+    columns: usize,
+) -> Outcome
+    ensures { λ r. ⌜ ((e xs : List Float) (q : Float) (g : Bool) (k : ℕ) → r ≡ first (shapeLines (rule metric (inputs e xs «return_rows» q) g «return_columns» k) «rows_in» columns)) ⌝ }
+{
+    let tail = sharing::is_tail_risk(metric);
+    let other = refusal::both(
+        tail,
+        refusal::both(0 < return_rows, return_columns != columns),
     );
+    let o = refusal::refuse(other, Refusal::DimensionMismatch, Outcome::Done);
+    let o = refusal::refuse(rows_in != columns, Refusal::DimensionMismatch, o);
     refusal::refuse(columns == 0, Refusal::NoData, o)
 }
 
-// What Sharpe expects, then the count of clusters.
-fn judge_rule(metric: Metric, expected: &[f64], given: bool, clusters: usize, n: usize) -> Outcome
-    ensures { λ r. ⌜ r ≡ first (ruleLines (rule metric (now (expected .entry)) given clusters) n) ⌝ }
+// The rows and the confidence that a tail-risk metric asks for, before the rest.
+fn judge_tail(metric: Metric, return_rows: usize, confidence: f64, rest: Outcome) -> Outcome
+    ensures { λ r. ⌜ ((e xs : List Float) → r ≡ andThen (first (tailLines metric (inputs e xs «return_rows» confidence))) rest) ⌝ }
+{
+    let tail = sharing::is_tail_risk(metric);
+    let rowless = refusal::both(tail, return_rows == 0);
+    let unsure = refusal::both(tail, ordering::is_no_part(confidence));
+    let o = refusal::refuse(unsure, Refusal::ConfidenceOutOfRange, rest);
+    refusal::refuse(rowless, Refusal::MissingReturnsForTailRisk, o)
+}
+
+// What Sharpe expects, what a tail-risk metric asks, then the count of clusters, whatever else the rule says.
+fn judge_rule(
+    metric: Metric,
+    expected: &[f64],
+    given: bool,
+    return_rows: usize,
+    confidence: f64,
+    clusters: usize,
+    n: usize,
+) -> Outcome
+    ensures { λ r. ⌜ ((xs : List Float) (w : ℕ) → r ≡ first (ruleLines (rule metric (inputs (now (expected .entry)) xs «return_rows» confidence) given w clusters) n)) ⌝ }
 {
     let sharpe = sharing::is_sharpe(metric);
     let unexpected = refusal::both(sharpe, refusal::both(given, expected.len() != n));
@@ -312,6 +425,7 @@ fn judge_rule(metric: Metric, expected: &[f64], given: bool, clusters: usize, n:
         assets: n,
     };
     let o = refusal::refuse(no_count, count, Outcome::Done);
+    let o = judge_tail(metric, return_rows, confidence, o);
     let o = refusal::refuse(missing, Refusal::MissingExpectedReturnsForSharpe, o);
     refusal::refuse(unexpected, Refusal::DimensionMismatch, o)
 }
@@ -324,18 +438,30 @@ fn judge(
     metric: Metric,
     expected: &[f64],
     given: bool,
+    returns: &[f64],
+    return_rows: usize,
+    return_columns: usize,
+    confidence: f64,
     clusters: usize,
     rows: usize,
     order: usize,
     weights: usize,
     scratch: usize,
 ) -> Outcome
-    ensures { λ r. ⌜ r ≡ first (judgeTable (rule metric (now (expected .entry)) given clusters) len «rows_in» columns (roomFor rows order weights scratch)) ⌝ }
+    ensures { λ r. ⌜ r ≡ first (judgeTable (rule metric (inputs (now (expected .entry)) (now (returns .entry)) «return_rows» confidence) given «return_columns» clusters) len «rows_in» columns (roomFor rows order weights scratch)) ⌝ }
 {
-    let sized = lent::sized(len, rows_in, columns);
+    let sized = judge_sizes(len, rows_in, columns, returns, return_rows, return_columns);
     let rooms = judge_rooms(columns, rows, order, weights, scratch);
-    let shape = judge_shape(rows_in, columns);
-    let ruled = judge_rule(metric, expected, given, clusters, columns);
+    let shape = judge_shape(metric, return_rows, return_columns, rows_in, columns);
+    let ruled = judge_rule(
+        metric,
+        expected,
+        given,
+        return_rows,
+        confidence,
+        clusters,
+        columns,
+    );
     refusal::and_then(
         sized,
         refusal::and_then(rooms, refusal::and_then(shape, ruled)),
@@ -350,6 +476,10 @@ pub fn allocate_covariance(
     metric: Metric,
     expected: &[f64],
     expected_given: bool,
+    returns: &[f64],
+    return_rows: usize,
+    return_columns: usize,
+    confidence: f64,
     clusters: usize,
     distance: Distance,
     linkage: Linkage,
@@ -358,7 +488,7 @@ pub fn allocate_covariance(
     weights: &mut [f64],
     scratch: &mut [f64],
 ) -> Outcome
-    ensures { λ r. ⌜ Answered (rule metric (now (expected .entry)) «expected_given» clusters) distance linkage (now (covariance .entry)) «rows_in» columns (roomFor (length (now (rows .entry))) (length (now (order .entry))) (length (now (weights .entry))) (length (now (scratch .entry)))) r (now (rows .exit)) (now (order .exit)) (now (weights .exit)) (now (scratch .exit)) ⌝ }
+    ensures { λ r. ⌜ Answered (rule metric (inputs (now (expected .entry)) (now (returns .entry)) «return_rows» confidence) «expected_given» «return_columns» clusters) distance linkage (now (covariance .entry)) «rows_in» columns (roomFor (length (now (rows .entry))) (length (now (order .entry))) (length (now (weights .entry))) (length (now (scratch .entry)))) r (now (rows .exit)) (now (order .exit)) (now (weights .exit)) (now (scratch .exit)) ⌝ }
 {
     let said = judge(
         covariance.len(),
@@ -367,6 +497,10 @@ pub fn allocate_covariance(
         metric,
         expected,
         expected_given,
+        returns,
+        return_rows,
+        return_columns,
+        confidence,
         clusters,
         rows.len(),
         order.len(),
@@ -381,6 +515,10 @@ pub fn allocate_covariance(
         metric,
         expected,
         expected_given,
+        returns,
+        return_rows,
+        return_columns,
+        confidence,
         clusters,
         distance,
         linkage,

@@ -1,6 +1,7 @@
 -- `hierarchy::allocate_covariance` meets its contract. Assumes nothing.
 use mathlib.Core.Path.{sym, _∙_, refl}
 use borrow.Author.Needs.{needs}
+use Rattle.sharing.specs.Split.{inputs}
 use Rattle.hierarchy.specs.Hierarchy.{rule}
 use Rattle.hierarchy.proofs.Answers.{judged, same-room, judged-as, cleared-as, laid-as, answered-refused, answered-done}
 use Rattle.hierarchy.proofs.allocate_covariance.Statement.{statement}
@@ -32,8 +33,8 @@ same-length-4 c = search needs
 
 returns : tie.Need-returns
 returns c =
-    let a = c .before .before .before .before .before .before .before .before .before .before .before .before .before .before .before .before .before .before .before .before .before .before .args in
-    let q = rule (a .metric) (a .expected .now) (a .expected-given) (a .clusters) in
+    let a = c .before .before .before .before .before .before .before .before .before .before .before .before .before .before .before .before .before .before .before .before .before .before .before .args in
+    let q = rule (a .metric) (inputs (a .expected .now) (a .returns .now) (a .return-rows) (a .confidence)) (a .expected-given) (a .return-columns) (a .clusters) in
     answered-refused q (a .distance) (a .linkage) (a .covariance .now) (a .rows-in) (a .columns) _ _ _ _ _ _ _ (c .before .before .before .before .before .before .before .before .before .before .before .before .before .before .before .judge .ensures) _ (c .enum-told2 .given .1) refl (c .before .before .before .before .before .before .before .before .before .before .clear-all .ensures)
 
 run-requires : tie.Need-run-requires
@@ -57,8 +58,8 @@ same-length-8 c = search needs
 
 returns-2 : tie.Need-returns-2
 returns-2 c =
-    let a = c .before .before .before .before .before .before .before .before .before .before .before .before .before .before .before .before .before .before .before .before .before .before .before .before .before .before .before .before .before .before .before .before .before .before .before .args in
-    let q = rule (a .metric) (a .expected .now) (a .expected-given) (a .clusters) in
+    let a = c .before .before .before .before .before .before .before .before .before .before .before .before .before .before .before .before .before .before .before .before .before .before .before .before .before .before .before .before .before .before .before .before .before .before .before .before .args in
+    let q = rule (a .metric) (inputs (a .expected .now) (a .returns .now) (a .return-rows) (a .confidence)) (a .expected-given) (a .return-columns) (a .clusters) in
     let k = c .before .before .before .before .before .before .before .before .before .before .before .before .before .before .before .before .before .before .before .before .before .before .before .clear-all .kept in
     let r = same-room _ _ _ _ _ _ _ _ (k .0) (k .1 .0) (k .1 .1 .0) (k .1 .1 .1 .0) in
     answered-done q (a .distance) (a .linkage) (a .covariance .now) (a .rows-in) (a .columns) _ _ _ _ _ _ _ (c .before .before .before .before .before .before .before .before .before .before .before .before .before .before .before .before .before .before .before .before .before .before .before .before .before .before .before .before .judge .ensures) (c .before .before .before .before .before .before .before .before .before .before .before .before .before .enum-told .given .1) (c .before .before .before .before .before .before .before .before .run .ensures .0) (laid-as _ _ _ _ _ _ r _ _ _ _ _ _ (c .before .before .before .before .before .before .before .before .run .ensures .1))

@@ -1,11 +1,13 @@
 -- `hierarchy::judge` meets its contract. Assumes nothing.
 use borrow.Author.Needs.{needs}
+use Rattle.sharing.specs.Split.{inputs}
+use Rattle.hierarchy.specs.Hierarchy.{rule}
 use Rattle.hierarchy.proofs.Answers.{judge-said}
 use Rattle.hierarchy.proofs.judge.Statement.{statement}
 use Rattle.hierarchy.proofs.judge.Tie as tie
 
-sized-requires : tie.Need-sized-requires
-sized-requires c κs = search needs
+judge-sizes-requires : tie.Need-judge-sizes-requires
+judge-sizes-requires c κs = search needs
 
 judge-rooms-requires : tie.Need-judge-rooms-requires
 judge-rooms-requires c κs = search needs
@@ -26,13 +28,16 @@ and-then-requires-3 : tie.Need-and-then-requires-3
 and-then-requires-3 c κs = search needs
 
 returns : tie.Need-returns
-returns c = judge-said _ _ _ _ _ _ _ _ _ _ _ _ (c .before .before .before .before .before .before .sized .ensures) (c .before .before .before .before .before .judge-rooms .ensures) (c .before .before .before .before .judge-shape .ensures) (c .before .before .before .judge-rule .ensures) (c .before .before .and-then .ensures) (c .before .and-then2 .ensures) (c .and-then3 .ensures)
+returns c =
+    let a = c .before .before .before .before .before .before .before .before .before .args in
+    let q = rule (a .metric) (inputs (a .expected .now) (a .returns .now) (a .return-rows) (a .confidence)) (a .given) (a .return-columns) (a .clusters) in
+    judge-said q _ _ _ _ _ _ _ _ _ _ _ (c .before .before .before .before .before .before .judge-sizes .ensures (a .metric) (a .expected .now) (a .confidence) (a .given) (a .clusters)) (c .before .before .before .before .before .judge-rooms .ensures) (c .before .before .before .before .judge-shape .ensures (a .expected .now) (a .returns .now) (a .confidence) (a .given) (a .clusters)) (c .before .before .before .judge-rule .ensures (a .returns .now) (a .return-columns)) (c .before .before .and-then .ensures) (c .before .and-then2 .ensures) (c .and-then3 .ensures)
 
 pub judge-spec : {M : Type 1} → statement M
 judge-spec =
     tie.close
     (tie.spec
-    sized-requires
+    judge-sizes-requires
     judge-rooms-requires
     judge-shape-requires
     judge-rule-requires

@@ -1,6 +1,6 @@
 -- `hierarchy::judge_rule` meets its contract. Assumes nothing.
 use borrow.Author.Needs.{needs}
-use Rattle.refusal.proofs.Tables.{table, table-end}
+use Rattle.refusal.proofs.Tables.{table, table-end, first-append}
 use Rattle.hierarchy.specs.Hierarchy.{expectedLines}
 use Rattle.hierarchy.specs.Steps.{ruleLines}
 use Rattle.hierarchy.proofs.judge_rule.Statement.{statement}
@@ -24,6 +24,9 @@ either-requires c κs = search needs
 refuse-requires : tie.Need-refuse-requires
 refuse-requires c κs = search needs
 
+judge-tail-requires : tie.Need-judge-tail-requires
+judge-tail-requires c κs = search needs
+
 refuse-requires-2 : tie.Need-refuse-requires-2
 refuse-requires-2 c κs = search needs
 
@@ -32,7 +35,7 @@ refuse-requires-3 c κs = search needs
 
 returns : tie.Need-returns
 unfolding ruleLines expectedLines
-returns c = simp (table, table-end) (rw (c .refuse3 .ensures, c .before .refuse2 .ensures, c .before .before .refuse .ensures, c .before .before .before .either .ensures, c .before .before .before .before .both3 .ensures, c .before .before .before .before .before .both2 .ensures, c .before .before .before .before .before .before .both .ensures, c .before .before .before .before .before .before .before .is-sharpe .ensures))
+returns c xs w = simp (table, table-end, first-append) (rw (c .refuse3 .ensures, c .before .refuse2 .ensures, c .before .before .judge-tail .ensures (c .before .before .before .before .before .before .before .before .before .before .args .expected .now) xs, c .before .before .before .refuse .ensures, c .before .before .before .before .either .ensures, c .before .before .before .before .before .both3 .ensures, c .before .before .before .before .before .before .both2 .ensures, c .before .before .before .before .before .before .before .both .ensures, c .before .before .before .before .before .before .before .before .is-sharpe .ensures))
 
 pub judge-rule-spec : {M : Type 1} → statement M
 judge-rule-spec =
@@ -44,6 +47,7 @@ judge-rule-spec =
     both-requires-3
     either-requires
     refuse-requires
+    judge-tail-requires
     refuse-requires-2
     refuse-requires-3
     returns)

@@ -1,7 +1,7 @@
 -- `hierarchy::settle` meets its contract. Assumes nothing.
-use mathlib.Core.Path.{sym, ap, _∙_}
+use mathlib.Core.Path.{sym, _∙_}
 use borrow.Author.Needs.{needs}
-use Rattle.lent.specs.Grid.{zeros}
+use Rattle.sharing.specs.Split.{inputs}
 use Rattle.hierarchy.specs.Hierarchy.{rule}
 use Rattle.hierarchy.proofs.Answers.{laid-cleared, laid-filled, same-room, cleared-as}
 use Rattle.hierarchy.proofs.settle.Statement.{statement}
@@ -33,16 +33,13 @@ same-length-4 c = search needs
 
 returns : tie.Need-returns
 returns c =
-    let s = c .before .before .before .before .before .before .before .before .before .before .before .before .before .before .before .before .before .before .before .before .before .before .before .before .before .before .before .before .before .before .before .before .before .before in
+    let s = c .before .before .before .before .before .before .before .before .before .before .before .before .before .before .before .before .before .before .before .before .before .before .before .before .before .before .before .before .before .before .before .before .before .before .before in
     let a = s .args in
     let p = s .pre .0 in
     let w = c .before .before .before .before .before .before .before .before .before .before .before .before .before .before .before .before .before .before .before .before .before .before .before .work in
     let k = w .kept in
-    let z = cleared-as _ _ _ _ _ _ (same-room _ _ _ _ _ _ _ _ (k .1 .1 .1 .1 .1 .1 .1 .1 .0 ∙ p .for-rows) (k .1 .1 .1 .1 .1 .1 .1 .1 .1 .0 ∙ p .for-order) (k .1 .1 .1 .1 .1 .1 .1 .1 .1 .1 .0 ∙ p .for-weights) (k .1 .1 .1 .1 .1 .1 .1 .1 .1 .1 .1 .0 ∙ p .for-scratch)) (c .before .before .before .before .before .before .before .before .clear-all .ensures) in
-    (w .ensures .answer, laid-cleared (rule (a .metric) (a .expected .now) (a .given) (a .clusters)) (a .distance) (a .linkage) (a .cov .now) (a .n) _ _ _ _ _ _ _ (sym (w .ensures .answer) ∙ c .before .before .before .before .before .before .before .before .before .before .before .before .before .enum-told2 .given .1) z)
-
-clear-requires : tie.Need-clear-requires
-clear-requires c κs = search needs
+    let z = cleared-as _ _ _ _ _ _ (same-room _ _ _ _ _ _ _ _ (k .1 .1 .1 .1 .1 .1 .1 .1 .1 .1 .1 .1 .0 ∙ p .for-rows) (k .1 .1 .1 .1 .1 .1 .1 .1 .1 .1 .1 .1 .1 .0 ∙ p .for-order) (k .1 .1 .1 .1 .1 .1 .1 .1 .1 .1 .1 .1 .1 .1 .0 ∙ p .for-weights) (k .1 .1 .1 .1 .1 .1 .1 .1 .1 .1 .1 .1 .1 .1 .1 .0)) (c .before .before .before .before .before .before .before .before .clear-all .ensures) in
+    (w .ensures .answer, laid-cleared (rule (a .metric) (inputs (a .expected .now) (a .returns .now) (a .return-rows) (a .confidence)) (a .given) (a .return-columns) (a .clusters)) (a .distance) (a .linkage) (a .cov .now) (a .n) _ _ _ _ _ _ _ (sym (w .ensures .answer) ∙ c .before .before .before .before .before .before .before .before .before .before .before .before .before .enum-told2 .given .1) z)
 
 same-length-5 : tie.Need-same-length-5
 same-length-5 c = search needs
@@ -58,12 +55,12 @@ same-length-8 c = search needs
 
 returns-2 : tie.Need-returns-2
 returns-2 c =
-    let s = c .before .before .before .before .before .before .before .before .before .before .before .before .before .before .before .before .before .before .before .before .before .before .before .before .before in
+    let s = c .before .before .before .before .before .before .before .before .before .before .before .before .before .before .before .before .before .before .before .before .before .before in
     let a = s .args in
     let p = s .pre .0 in
-    let w = c .before .before .before .before .before .before .before .before .before .before .before .before .before .before .work in
-    let d = c .before .before .before .before .enum-told .given .1 in
-    (w .ensures .answer, laid-filled (rule (a .metric) (a .expected .now) (a .given) (a .clusters)) (a .distance) (a .linkage) (a .cov .now) (a .n) _ _ _ _ _ (p .assets) (sym (w .ensures .answer) ∙ d) (w .ensures .filled d) (c .before .before .clear .ensures ∙ ap zeros (w .kept .1 .1 .1 .1 .1 .1 .1 .1 .1 .1 .1 .0 ∙ p .for-scratch)))
+    let w = c .before .before .before .before .before .before .before .before .before .before .work .ensures in
+    let d = c .enum-told .given .1 in
+    (w .answer, laid-filled (rule (a .metric) (inputs (a .expected .now) (a .returns .now) (a .return-rows) (a .confidence)) (a .given) (a .return-columns) (a .clusters)) (a .distance) (a .linkage) (a .cov .now) (a .n) _ _ _ _ _ _ (p .assets) (sym (w .answer) ∙ d) (w .filled d))
 
 pub settle-spec : {M : Type 1} → statement M
 settle-spec =
@@ -78,7 +75,6 @@ settle-spec =
     same-length-3
     same-length-4
     returns
-    clear-requires
     same-length-5
     same-length-6
     same-length-7
