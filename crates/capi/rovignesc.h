@@ -7,7 +7,8 @@
 
    A flag is false where it is 0. A matrix is a slice, a flag that says whether it is given, its rows and its columns; cell (r, c) is entry
    r * columns + c. Names are bytes: distance "correlation" or "distance_of_distances", linkage "single", "complete", "average" or "ward"
-   (any case; else 7, 8), a metric "minimum_variance", "minimum_standard_deviation", "sharpe_ratio" or "equal_weighting" (as written; else 2, 12).
+   (any case; else 7, 8), a metric "minimum_variance", "minimum_standard_deviation", "sharpe_ratio", "equal_weighting", "expected_shortfall" or
+   "conditional_drawdown_risk" (as written; else 2).
    A name of linkage or distance that is unknown is refused after 9, 10 and 11 and before everything else, 8 before 7.
 
    Of n assets the rows take 2(n - 1) numbers, the order n, the weights n, each seriated matrix n * n, scratch at least 8192. */
@@ -40,7 +41,8 @@ uint8_t rovignesc_hrp(size_t assets,
                       double *scratch, size_t scratch_len);
 
 /* Hierarchical clustering-based asset allocation: the tree, its leaf order and the weights. expected_given and clusters_given are flags:
-   without clusters the tree is split down to single assets. asked has room for two numbers (else 11): after refusal 6 the clusters that were
+   without clusters the tree is split down to single assets. confidence is the part of the days that expected_shortfall and
+   conditional_drawdown_risk count as bad, from 0 to 1 (else 17, after 16 where there are no return rows); no other metric reads it. asked has room for two numbers (else 11): after refusal 6 the clusters that were
    asked for and the assets, else zeros. */
 uint8_t rovignesc_hcaa(size_t assets,
                        const double *prices, size_t prices_len, uint8_t prices_given, size_t prices_rows, size_t prices_columns,
@@ -49,6 +51,7 @@ uint8_t rovignesc_hcaa(size_t assets,
                        const double *expected, size_t expected_len, uint8_t expected_given,
                        const uint8_t *metric, size_t metric_len,
                        const uint8_t *method, size_t method_len,
+                       double confidence,
                        uint8_t clusters_given, size_t clusters,
                        const uint8_t *resample_by, size_t resample_by_len,
                        const uint8_t *distance, size_t distance_len,

@@ -12,7 +12,7 @@ use Rattle.arithmetic.specs.Constants.{pz}
 use Rattle.refusal.specs.Refusal.{valuesOf}
 use Rattle.refusal.specs.Table.{Line, first, orElse, andThen}
 use Rattle.refusal.specs.declared.Refusal.{Refusal}
-use Rattle.refusal.specs.declared.Refusal.the-variants.{NoData, UnknownAllocationMetric, DimensionMismatch, MissingExpectedReturnsForSharpe, UnknownReturns, InvalidNumClusters, UnknownDistance, UnknownLinkage, OverLimit, SliceLength, ShortBuffer, TailRiskMetric, WeightOutOfRange, NoTree, MalformedText}
+use Rattle.refusal.specs.declared.Refusal.the-variants.{NoData, UnknownAllocationMetric, DimensionMismatch, MissingExpectedReturnsForSharpe, UnknownReturns, InvalidNumClusters, UnknownDistance, UnknownLinkage, OverLimit, SliceLength, ShortBuffer, WeightOutOfRange, NoTree, MalformedText, MissingReturnsForTailRisk, ConfidenceOutOfRange}
 use Rattle.refusal.specs.declared.Outcome.{Outcome}
 use Rattle.refusal.specs.declared.Outcome.the-variants.{Done, Refused}
 use Rattle.refusal.proofs.Tables.{none, first-append, then-done, then-refused}
@@ -90,10 +90,11 @@ values-put m UnknownLinkage = no-values (suc (suc m))
 values-put m OverLimit = no-values (suc (suc m))
 values-put m SliceLength = no-values (suc (suc m))
 values-put m ShortBuffer = no-values (suc (suc m))
-values-put m TailRiskMetric = no-values (suc (suc m))
 values-put m WeightOutOfRange = no-values (suc (suc m))
 values-put m NoTree = no-values (suc (suc m))
 values-put m MalformedText = no-values (suc (suc m))
+values-put m MissingReturnsForTailRisk = no-values (suc (suc m))
+values-put m ConfidenceOutOfRange = no-values (suc (suc m))
 
 blank-length : (room : ℕ) (blank : List ℕ) → blank ≡ noughts room → length blank ≡ room
 blank-length room blank z = ap length z ∙ length-replicate {A = ℕ} room 0
@@ -130,11 +131,11 @@ hcaa-cleared o k q d l cov n room rows order weights scratch e z =
       scratch-is = z .scratch-is;
     }
 
-module _ (n : ℕ) (p : List Float) (ps ps′ : Shape) (ep : ps ≡ ps′) (xs : List Float) (rs rs′ : Shape) (er : rs ≡ rs′) (c : List Float) (cs cs′ : Shape) (ec : cs ≡ cs′) (e : List Float) (given : Bool) (metric method : List ℕ)
+module _ (n : ℕ) (p : List Float) (ps ps′ : Shape) (ep : ps ≡ ps′) (xs : List Float) (rs rs′ : Shape) (er : rs ≡ rs′) (c : List Float) (cs cs′ : Shape) (ec : cs ≡ cs′) (e : List Float) (given : Bool) (metric method : List ℕ) (conf : Float)
     (k : Clusters) (by link name : List ℕ) (room : hierarchy.Room) (count : ℕ) (said : Outcome)
     (f : said ≡ andThen (first (matrixLines n ps (length p) rs (length xs) cs (length c))) (andThen (first (hierarchy.roomLines n room)) (andThen (first (askedLines count)) (andThen (linkageSays (linkageNamed link)) (distanceSays (distanceNamed name)))))) where
   abbrev split : hcaa.Job
-  split = hcaa.job n p ps′ xs rs′ c cs′ e given metric method k by (distanceOf (distanceNamed name)) (linkageOf (linkageNamed link))
+  split = hcaa.job n p ps′ xs rs′ c cs′ e given metric method conf k by (distanceOf (distanceNamed name)) (linkageOf (linkageNamed link))
 
   hcaa-stages : hcaaOutcome split link name room count ≡ andThen said (hcaa.outcomeOf split room)
   unfolding hcaaOutcome
@@ -152,7 +153,7 @@ module _ (n : ℕ) (p : List Float) (ps ps′ : Shape) (ep : ps ≡ ps′) (xs :
         }
 
     pub hcaa-done : said ≡ Done → (k′ : Clusters) → k′ ≡ k → (d : Distance) → d ≡ distanceOf (distanceNamed name) → (l : Linkage) → l ≡ linkageOf (linkageNamed link)
-        → (o : Outcome) → r ≡ numberIn o → asked ≡ askedLaid o count → hcaa.Allocated (hcaa.job n p ps xs rs c cs e given metric method k′ by d l) room o rows order weights scratch
+        → (o : Outcome) → r ≡ numberIn o → asked ≡ askedLaid o count → hcaa.Allocated (hcaa.job n p ps xs rs c cs e given metric method conf k′ by d l) room o rows order weights scratch
         → HcaaAnswer split link name room count r rows order weights scratch asked
     hcaa-done h k′ ek d ed l el o a t z =
         let s : hcaaOutcome split link name room count ≡ hcaa.outcomeOf split room = hcaa-stages ∙ then-done said _ h in

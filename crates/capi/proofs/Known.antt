@@ -87,10 +87,10 @@ module _ (j : hcaa.Job) (link name : List ℕ) (room : hierarchy.Room) (count : 
   hcaa-outcome = regroup _ _ _ _ _ _ ∙ then-again _ _ _ _ names-known (hcaa-behind _)
 
 -- the answer, and every lent buffer, are those of `hcaa::allocate` with that linkage and that distance
-module _ (n : ℕ) (p : List Float) (ps : Shape) (xs : List Float) (rs : Shape) (c : List Float) (cs : Shape) (e : List Float) (given : Bool) (metric method : List ℕ) (k : Clusters) (by link name : List ℕ)
+module _ (n : ℕ) (p : List Float) (ps : Shape) (xs : List Float) (rs : Shape) (c : List Float) (cs : Shape) (e : List Float) (given : Bool) (metric method : List ℕ) (conf : Float) (k : Clusters) (by link name : List ℕ)
     (room : hierarchy.Room) (count r : ℕ) (rows order : List ℕ) (weights scratch : List Float) (asked : List ℕ) where
   abbrev split : Distance → Linkage → hcaa.Job
-  split d l = hcaa.job n p ps xs rs c cs e given metric method k by d l
+  split d l = hcaa.job n p ps xs rs c cs e given metric method conf k by d l
 
   pub hcaa-known : (l : Linkage) (d : Distance) → linkageNamed link ≡ linkage.Of l → distanceNamed name ≡ distance.Of d → 2 ≤ count
       → HcaaAnswer (split (distanceOf (distanceNamed name)) (linkageOf (linkageNamed link))) link name room count r rows order weights scratch asked

@@ -280,6 +280,7 @@ pub extern "C" fn rovignesc_hcaa(
     expected_given: u8,
     metric: &[u8],
     method: &[u8],
+    confidence: f64,
     clusters_given: u8,
     clusters: usize,
     resample_by: &[u8],
@@ -291,7 +292,7 @@ pub extern "C" fn rovignesc_hcaa(
     scratch: &mut [f64],
     asked: &mut [usize],
 ) -> u8
-    ensures { λ r. ⌜ HcaaAnswer (hcaa.job assets (now (prices .entry)) (shapeOf «prices_given» «prices_rows» «prices_columns») (now (returns .entry)) (shapeOf «returns_given» «returns_rows» «returns_columns») (now (covariance .entry)) (shapeOf «covariance_given» «covariance_rows» «covariance_columns») (now (expected .entry)) (isSet «expected_given») (now (metric .entry)) (now (method .entry)) (clustersFor «clusters_given» clusters) (now («resample_by» .entry)) (distanceOf (distanceNamed (now (distance .entry)))) (linkageOf (linkageNamed (now (linkage .entry))))) (now (linkage .entry)) (now (distance .entry)) (hierarchy.roomFor (length (now (rows .entry))) (length (now (order .entry))) (length (now (weights .entry))) (length (now (scratch .entry)))) (length (now (asked .entry))) r (now (rows .exit)) (now (order .exit)) (now (weights .exit)) (now (scratch .exit)) (now (asked .exit)) ⌝ }
+    ensures { λ r. ⌜ HcaaAnswer (hcaa.job assets (now (prices .entry)) (shapeOf «prices_given» «prices_rows» «prices_columns») (now (returns .entry)) (shapeOf «returns_given» «returns_rows» «returns_columns») (now (covariance .entry)) (shapeOf «covariance_given» «covariance_rows» «covariance_columns») (now (expected .entry)) (isSet «expected_given») (now (metric .entry)) (now (method .entry)) confidence (clustersFor «clusters_given» clusters) (now («resample_by» .entry)) (distanceOf (distanceNamed (now (distance .entry)))) (linkageOf (linkageNamed (now (linkage .entry))))) (now (linkage .entry)) (now (distance .entry)) (hierarchy.roomFor (length (now (rows .entry))) (length (now (order .entry))) (length (now (weights .entry))) (length (now (scratch .entry)))) (length (now (asked .entry))) r (now (rows .exit)) (now (order .exit)) (now (weights .exit)) (now (scratch .exit)) (now (asked .exit)) ⌝ }
 {
     let prices_shape = shape(prices_given, prices_rows, prices_columns);
     let returns_shape = shape(returns_given, returns_rows, returns_columns);
@@ -328,6 +329,7 @@ pub extern "C" fn rovignesc_hcaa(
         expected_given != 0,
         metric,
         method,
+        confidence,
         clusters_in(clusters_given, clusters),
         resample_by,
         distance_in(distance),

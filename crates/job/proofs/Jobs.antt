@@ -1,22 +1,21 @@
 -- What a job's reading, and its allocator's call, leave in the buffers. Assumes nothing.
 use Prim.Native.Nat.{ℕ, _+_, _*_, _-_, _≤_, _<_}
-use mathlib.Core.Path.{_≡_, refl, sym, ap, _∙_, subst}
-use mathlib.Core.Bool.{Bool, true, false, not, _&&_, _||_}
-use mathlib.Core.List.{List, [], _∷_, _++_}
+use mathlib.Core.Path.{_≡_, refl, sym, ap, _∙_}
+use mathlib.Core.Bool.{true, false, not}
+use mathlib.Core.List.{List, []}
 use native.Mathlib.Omega.{arith}
 use borrow.Author.Tests.{eqb-false}
-use lib.Dec.{eqb, ltb}
-use lib.ListN.{length, take, getD}
+use lib.Dec.{eqb}
+use lib.ListN.{length, take}
 use lib.Ieee.{Float}
 use Rattle.arithmetic.specs.Constants.{pz}
-use Rattle.refusal.specs.Table.{Line, first}
 use Rattle.refusal.specs.declared.Refusal.{Refusal}
 use Rattle.refusal.specs.declared.Outcome.{Outcome}
 use Rattle.refusal.specs.declared.Outcome.the-variants as outcome
 use Rattle.refusal.proofs.Tables.{none, parts-done}
 use Rattle.lent.specs.Lent.{laid}
 use Rattle.lent.specs.declared.Shape.the-variants.{Absent, Of}
-use Rattle.lent.proofs.Laws.{length-tab, length-grid, square-in}
+use Rattle.lent.proofs.Laws.{length-tab, length-grid}
 use Rattle.inputs.specs.Inputs.{matrixLines}
 use Rattle.inputs.proofs.Laws.{laid-front}
 use Rattle.tree.specs.Rows.{isTree}
@@ -27,10 +26,10 @@ use Rattle.linkage.proofs.Rows.{rows-tree}
 use Rattle.linkage.specs.declared.Distance.{Distance}
 use Rattle.linkage.specs.declared.Linkage.{Linkage}
 use Rattle.linkage.specs.declared.Linkage.the-variants.{Single}
-use Rattle.linkage.specs.Names.{distanceNamed, linkageNamed}
 use Rattle.clusters.specs.Shares.{Shares, isNone, weightsIn}
 use Rattle.clusters.specs.Shares as shares
 use Rattle.bisection.proofs.Halves.{weights-length}
+use Rattle.sharing.specs.Down.{tailLines}
 use Rattle.sharing.proofs.Judged.{shares-length}
 use Rattle.parity.specs.Parity as parity
 use Rattle.hrp.specs.Hrp as hrp
@@ -41,7 +40,7 @@ use Rattle.reading.specs.Reading.{assets, line, field, clustersOf, covarianceCe
 use Rattle.reading.specs.declared.Reading.{Reading}
 use Rattle.reading.specs.declared.Reading.the-variants as reading
 use Rattle.reading.proofs.Accepted.{accepted, Hrp, Hcaa, read-hrp, read-hcaa, read-refused}
-use Rattle.job.specs.Job.{clustersAs, hrpJob, hcaaJob, hrpRoom, hcaaRoom, allocatorSays, weightsOf, orderOf}
+use Rattle.job.specs.Job.{clustersAs, confidence, hrpRoom, hcaaRoom, allocatorSays, weightsOf, orderOf}
 use Rattle.job.specs.Steps.{Read, Answer, Allotted}
 use Rattle.job.proofs.Ends.{counted}
 
@@ -209,7 +208,7 @@ hrp-allotted text starts cov d p room same said rows order weights correlations 
 -- ---- HCAA's
 
 abbrev hcaa-call : ℕ → List Float → List ℕ → Clusters → Linkage → Distance → hcaa.Job
-hcaa-call n cov m k l d = hcaa.job n [] Absent [] Absent cov (Of n n) [] false m [] k [] d l
+hcaa-call n cov m k l d = hcaa.job n [] Absent [] Absent cov (Of n n) [] false m [] confidence k [] d l
 
 abbrev metricIn : List ℕ → List ℕ
 metricIn text = field (line text 0) 1
@@ -242,7 +241,7 @@ module _ (n : ℕ) (cov : List Float) (l : Linkage) (d : Distance) where
 
   hcaa-length : (r : hierarchy.Rule) → isNone (hierarchy.weightsOf r d l cov n) ≡ false → length (weightsIn (hierarchy.weightsOf r d l cov n)) ≡ n
   unfolding hierarchy.weightsOf
-  hcaa-length r e = shares-length (r .metric) (r .expected) cov (hierarchy.rowsOf d l cov n) n (r .clusters) e .1
+  hcaa-length r e = shares-length (r .metric) (r .inputs) cov (hierarchy.rowsOf d l cov n) n (r .clusters) e .1
 
   module _ (m : List ℕ) (k : Clusters) where
     abbrev one : hcaa.Job
@@ -257,14 +256,14 @@ module _ (n : ℕ) (cov : List Float) (l : Linkage) (d : Distance) where
       shared : isNone (hierarchy.weightsOf (hcaa.usedRule one) d l cov n) ≡ false
 
     hcaa-done : hcaa.outcomeOf one hcaaRoom ≡ outcome.Done → Hcaa-done
-    unfolding hcaa.outcomeOf hcaa.hcaaTable hcaa.nameLines hcaa.usedCovariance hcaa.covarianceOf hierarchy.shareLines
+    unfolding hcaa.outcomeOf hcaa.hcaaTable hcaa.nameLines hcaa.usedCovariance hcaa.covarianceOf hierarchy.shareLines tailLines
     hcaa-done e =
         let a = parts-done (matrixLines n Absent 0 Absent 0 (Of n n) (length cov)) _ e in
         let b = parts-done (hierarchy.roomLines n hcaaRoom) _ (a .1) in
         let s = parts-done (hcaa.nameLines one) _ (b .1) in
         let t = parts-done (hcaa.matrixRules one) _ (s .1) in
         let u = parts-done (hcaa.sharpeLines one) _ (t .1) in
-        record { some = none _ (s .0) .1 .1 .1 .0; shared = none _ (u .1) .1 .1 .0 }
+        record { some = none _ (s .0) .1 .1 .0; shared = none _ (u .1) .1 .1 .1 .1 .0 }
 
 pub hcaa-allotted : (text starts : List ℕ) (cov : List Float) (l : Linkage) (d : Distance) → Read text (reading.Hcaa (length starts) l d) cov starts
     → (m : List ℕ) (k : Clusters) → m ≡ metricIn text → k ≡ clustersIn text

@@ -1,14 +1,12 @@
 -- Document 01, "Millionths and the job program": from a job text to its listing. "Order: 9, 15, 8, 7, the allocator's, 13." Definitions only.
 use Prim.Native.Nat.{ℕ, _-_}
-use mathlib.Core.Path.{_≡_}
-use mathlib.Core.Bool.{Bool, true, false, not, cond}
+use mathlib.Core.Bool.{false, not, cond}
 use mathlib.Core.List.{List, [], _∷_, _++_}
 use lib.Dec.{ltb}
 use lib.ListN.{length}
-use lib.Ieee.{Float}
+use lib.Ieee.{Float, binary64, ofBits}
 use Rattle.refusal.specs.Refusal.{numberOf}
 use Rattle.refusal.specs.Table.{Line, first, andThen}
-use Rattle.refusal.specs.declared.Refusal.{Refusal}
 use Rattle.refusal.specs.declared.Refusal.the-variants.{OverLimit, ShortBuffer, WeightOutOfRange}
 use Rattle.refusal.specs.declared.Outcome.{Outcome}
 use Rattle.refusal.specs.declared.Outcome.the-variants as outcome
@@ -45,10 +43,14 @@ unfoldable pub hrpJob : List ℕ → Distance → hrp.Job
 unfolding covarianceIn
 hrpJob text d = hrp.job (assets text) [] Absent [] Absent (covarianceIn text) (Of (assets text) (assets text)) [] false d
 
+-- a job text has no rows of returns, so that a tail-risk metric is refused (16) whatever the confidence; it is the double nearest 0.05
+abbrev pub confidence : Float
+confidence = ofBits binary64 0x3fa9_9999_9999_999a
+
 unfoldable pub hcaaJob : List ℕ → Linkage → Distance → hcaa.Job
 unfolding covarianceIn clustersOf
 hcaaJob text l d =
-    hcaa.job (assets text) [] Absent [] Absent (covarianceIn text) (Of (assets text) (assets text)) [] false (field (line text 0) 1) [] (clustersAs (clustersOf (field (line text 0) 4))) [] d l
+    hcaa.job (assets text) [] Absent [] Absent (covarianceIn text) (Of (assets text) (assets text)) [] false (field (line text 0) 1) [] confidence (clustersAs (clustersOf (field (line text 0) 4))) [] d l
 
 -- buffers for 64 assets
 abbrev pub hrpRoom : parity.Room

@@ -29,6 +29,9 @@ ghost use Rattle.job.specs.Steps.{Blank, Read, Allotted, Declined, Told}
 // 8,192 bytes hold every listing.
 pub const LEAST_LISTING: usize = 8192;
 
+// A job text has no rows of returns, so that no metric reads it.
+const CONFIDENCE: f64 = 0.05;
+
 // How many bytes of listing there are, and why a job was refused.
 pub enum Listed {
     Sheet(usize),
@@ -380,6 +383,7 @@ fn hcaa_in(
         false,
         fields::piece(line, b'\t', 1),
         &text[..0],
+        CONFIDENCE,
         clusters_in(line),
         &text[..0],
         distance,

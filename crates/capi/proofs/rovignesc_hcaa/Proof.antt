@@ -51,7 +51,7 @@ returns c =
     let x = said .before .before .shape2 .ensures in
     let v = said .before .shape3 .ensures in
     let t = c .before .before .tell .ensures in
-    hcaa-refused _ _ _ _ p _ _ _ x _ _ _ v _ _ _ _ _ _ _ _ _ _ _ (said .judge-hcaa .ensures) _ _ _ _ _ _ _ (told .enum-told2 .given .1) (t .0) (t .1) (c .before .before .before .before .before .before .before .before .before .before .before .before .clear-all .ensures)
+    hcaa-refused _ _ _ _ p _ _ _ x _ _ _ v _ _ _ _ _ _ _ _ _ _ _ _ (said .judge-hcaa .ensures) _ _ _ _ _ _ _ (told .enum-told2 .given .1) (t .0) (t .1) (c .before .before .before .before .before .before .before .before .before .before .before .before .clear-all .ensures)
 
 clusters-in-requires : tie.Need-clusters-in-requires
 clusters-in-requires c κs = search needs
@@ -69,16 +69,16 @@ tell-requires-2 : tie.Need-tell-requires-2
 tell-requires-2 c κs = search needs
 
 same-length-6 : tie.Need-same-length-6
-same-length-6 c = c .before .before .before .before .before .before .before .before .before .before .before .before .allocate .kept .1 .1 .1 .1 .1 .1 .1 .1 .1 .1 .1 .1 .1 .1 .1 .0
+same-length-6 c = c .before .before .before .before .before .before .before .before .before .before .before .before .allocate .kept .1 .1 .1 .1 .1 .1 .1 .1 .1 .1 .1 .1 .1 .1 .1 .1 .0
 
 same-length-7 : tie.Need-same-length-7
-same-length-7 c = c .before .before .before .before .before .before .before .before .before .before .before .before .allocate .kept .1 .1 .1 .1 .1 .1 .1 .1 .1 .1 .1 .1 .1 .1 .1 .1 .0
+same-length-7 c = c .before .before .before .before .before .before .before .before .before .before .before .before .allocate .kept .1 .1 .1 .1 .1 .1 .1 .1 .1 .1 .1 .1 .1 .1 .1 .1 .1 .0
 
 same-length-8 : tie.Need-same-length-8
-same-length-8 c = c .before .before .before .before .before .before .before .before .before .before .before .before .allocate .kept .1 .1 .1 .1 .1 .1 .1 .1 .1 .1 .1 .1 .1 .1 .1 .1 .1 .0
+same-length-8 c = c .before .before .before .before .before .before .before .before .before .before .before .before .allocate .kept .1 .1 .1 .1 .1 .1 .1 .1 .1 .1 .1 .1 .1 .1 .1 .1 .1 .1 .0
 
 same-length-9 : tie.Need-same-length-9
-same-length-9 c = c .before .before .before .before .before .before .before .before .before .before .before .before .allocate .kept .1 .1 .1 .1 .1 .1 .1 .1 .1 .1 .1 .1 .1 .1 .1 .1 .1 .1 .0
+same-length-9 c = c .before .before .before .before .before .before .before .before .before .before .before .before .allocate .kept .1 .1 .1 .1 .1 .1 .1 .1 .1 .1 .1 .1 .1 .1 .1 .1 .1 .1 .1 .0
 
 same-length-10 : tie.Need-same-length-10
 same-length-10 c = c .before .before .tell2 .kept .1 .0
@@ -95,7 +95,7 @@ returns-2 c =
     let x = said .before .before .shape2 .ensures in
     let v = said .before .shape3 .ensures in
     let t = c .before .before .tell2 .ensures in
-    hcaa-done _ _ _ _ p _ _ _ x _ _ _ v _ _ _ _ _ _ _ _ _ _ _ (said .judge-hcaa .ensures) _ _ _ _ _ _ (told .enum-told .given .1) _ (k .clusters-in .ensures) _ (d .distance-in .ensures) _ (l .linkage-in .ensures) _ (t .0) (t .1) (made .allocate .ensures .0)
+    hcaa-done _ _ _ _ p _ _ _ x _ _ _ v _ _ _ _ _ _ _ _ _ _ _ _ (said .judge-hcaa .ensures) _ _ _ _ _ _ (told .enum-told .given .1) _ (k .clusters-in .ensures) _ (d .distance-in .ensures) _ (l .linkage-in .ensures) _ (t .0) (t .1) (made .allocate .ensures .0)
 
 pub rovignesc-hcaa-spec : {M : Type 1} → statement M
 rovignesc-hcaa-spec =

@@ -8,12 +8,6 @@ use Rattle.job.proofs.Jobs.{hcaa-allotted}
 use borrow.Author.Needs.{needs}
 use Rattle.job.proofs.hcaa_in.Statement.{statement}
 use Rattle.job.proofs.hcaa_in.Tie as tie
-use Rattle.job.proofs.hcaa_in.Reads as reads
-use Rattle.job.proofs.hcaa_in.Lts as lts
-use Rattle.fields.proofs.piece.Reads as piece-reads
-use Rattle.hcaa.proofs.allocate.Reads as allocate-reads
-use Rattle.job.proofs.clusters_in.Reads as clusters-in-reads
-use Rattle.job.proofs.finish.Reads as finish-reads
 
 -- src/lib.rt:367:9
 piece-requires : tie.Need-piece-requires
@@ -55,7 +49,7 @@ allocate-requires c κs = search needs
 finish-requires : tie.Need-finish-requires
 finish-requires c κs = let s = c .before .before .before .before .before .before .before .before .before .before .before .before .before .before .before .before .before .before .before .before .before .before .before .before .before .before .before .before .before .before .before .before in
     let l = c .before .before .before .before .before .before .before .before .before .before .before .before .before .before .before .before .before .before .before .before .before .before .before .piece .ensures in
-    let k = c .before .before .before .before .before .before .before .before .before .before .before .allocate .kept .1 .1 .1 .1 .1 .1 .1 .1 .1 .1 .1 .1 .1 .1 .1 .1 in
+    let k = c .before .before .before .before .before .before .before .before .before .before .before .allocate .kept .1 .1 .1 .1 .1 .1 .1 .1 .1 .1 .1 .1 .1 .1 .1 .1 .1 in
     (hcaa-allotted _ _ _ _ _ (s .pre .1 .0) _ _ (c .before .before .before .before .before .before .before .before .before .before .before .before .before .before .before .before .before .before .before .piece2 .ensures ∙ ap (λ (x : List ℕ). field x 1) l) (c .before .before .before .before .before .before .before .before .before .before .before .before .before .before .before .before .before .clusters-in .ensures ∙ ap (λ (x : List ℕ). clustersAs (clustersOf (field x 4))) l) _ (s .pre .0) _ _ _ _ _ (c .before .before .before .before .before .before .before .before .before .before .before .allocate .ensures .0) (k .1 .0 ∙ ap (λ (r : hierarchy.Room). r .weights) (s .pre .0)) (k .0 ∙ ap (λ (r : hierarchy.Room). r .order) (s .pre .0)), s .pre .1 .1)
 
 -- src/lib.rt:349:1
