@@ -1,4 +1,4 @@
--- Document 01, "Figures to check (P: proved)": its P figures as one table under one claim, computed from the definitions that the public functions' contracts cite. Assumes nothing.
+-- Document 01, "Figures to check (P: proved)": its P figures, and document 02's of request 1, as one table under one claim, computed from the definitions that the public functions' contracts cite. Assumes nothing.
 use mathlib.Core.Path.{_≡_, refl}
 use mathlib.Core.Bool.{Bool, true, false, _&&_}
 use mathlib.Core.List.{List, [], _∷_, _++_, map}
@@ -42,11 +42,14 @@ use Rattle.reading.specs.declared.Reading.{Reading}
 use Rattle.reading.specs.declared.Reading.the-variants as read
 use Rattle.clusters.specs.Clusters.{recip, recipSum, shares, term, varianceOf, outside, anyLow as anyLowOf, riskTable, sizeTable, sharesOutcome, varianceOutcome, varianceAnswer}
 use Rattle.clusters.specs.Shares.{isNone, weightsIn}
+use Rattle.ordering.specs.Order as ordered
+use Rattle.ordering.specs.Nearest as nearest
+use Rattle.tails.specs.Tail as tail
 use Rattle.bisection.specs.Bisection as bisection
-use Rattle.sharing.specs.Names.{isTailRisk, metricNamed}
+use Rattle.sharing.specs.Names.{metricNamed}
 use Rattle.sharing.specs.Split as sharing
 use Rattle.sharing.specs.Allot as allot
-use Rattle.sharing.specs.Down.{isSharpe}
+use Rattle.sharing.specs.Down.{isSharpe, isTailRisk, tailLines}
 use Rattle.inputs.specs.Inputs.{absent, rowsIn, otherColumns, otherSize, matrixLines}
 use Rattle.parity.specs.Parity as parity
 use Rattle.hierarchy.specs.Hierarchy as hierarchy
@@ -57,7 +60,7 @@ use Rattle.hcaa.specs.declared.Clusters.the-variants.{All, Count}
 
 -- ---- bits, and answers in them
 
--- 0, 1/4, the double nearest 1/3, 1/2, 3/4, 1, 2, 3, infinity, NaN
+-- 0, 1/4, the double nearest 1/3, 1/2, 3/4, 1, 2, 3, −1, −3, infinity, NaN
 abbrev p0 : ℕ
 p0 = 0x0
 
@@ -81,6 +84,12 @@ two = 0x4000_0000_0000_0000
 
 abbrev three : ℕ
 three = 0x4008_0000_0000_0000
+
+abbrev minus1 : ℕ
+minus1 = 0xbff0_0000_0000_0000
+
+abbrev minus3 : ℕ
+minus3 = 0xc008_0000_0000_0000
 
 abbrev infinity : ℕ
 infinity = 0x7ff0_0000_0000_0000
@@ -146,7 +155,7 @@ trees =
 
 -- n assets of this covariance: a metric, clusters, distance and linkage
 abbrev given : ℕ → List Float → List ℕ → Clusters → Distance → Linkage → hcaa.Job
-given n cov metric k d l = hcaa.job n [] Absent [] Absent cov (Of n n) [] false metric [] k [] d l
+given n cov metric k d l = hcaa.job n [] Absent [] Absent cov (Of n n) [] false metric [] (ofBits binary64 half) k [] d l
 
 -- what a call says; then, by its outcome, the bits of the weights, their millionths, and the leaf order, in buffers of just the sizes that n assets ask
 abbrev buffers : Outcome → hcaa.Job → ℕ → List ℕ
@@ -200,6 +209,26 @@ hcaas =
     ∷ same (pair infinity one 1) (0 ∷ half ∷ half ∷ 500000 ∷ 500000 ∷ 0 ∷ 1 ∷ [])
     ∷ []
 
+-- ---- document 02, request 1: two assets of unit covariance, with rows of returns and a confidence
+
+abbrev tailed : List ℕ → ℕ → List ℕ → ℕ → Clusters → List ℕ
+tailed metric h cells q k = shared (hcaa.job 2 [] Absent (doubles cells) (Of h 2) (diagonal one one) (Of 2 2) [] false metric [] (ofBits binary64 q) k [] Correlation Single) 2
+
+abbrev tails : List Bool
+tails =
+    -- returns (−3, −1), (1, −1) and confidence 0.5: the index is a half, and goes to the even entry, so that the shortfalls are 3 and 1
+    same (tailed (bytes "expected_shortfall") 2 (minus3 ∷ minus1 ∷ one ∷ minus1 ∷ []) half All) (0 ∷ quarter ∷ most ∷ 250000 ∷ 750000 ∷ 0 ∷ 1 ∷ [])
+    -- a wealth of 1, −2, −2 and one of 1, 0, 0: the drawdowns, the start counted, are 0, 3, 3 and 0, 1, 1
+    ∷ same (tailed (bytes "conditional_drawdown_risk") 2 (minus3 ∷ minus1 ∷ p0 ∷ p0 ∷ []) half All) (0 ∷ quarter ∷ most ∷ 250000 ∷ 750000 ∷ 0 ∷ 1 ∷ [])
+    -- "16, no return rows", before 17; 17 for a NaN and for a confidence above 1, before 6; then 6
+    ∷ same (tailed (bytes "expected_shortfall") 0 [] no (Count 0)) (16 ∷ p0 ∷ p0 ∷ 0 ∷ 0 ∷ 0 ∷ 0 ∷ [])
+    ∷ same (tailed (bytes "expected_shortfall") 1 (one ∷ one ∷ []) no (Count 0)) (17 ∷ p0 ∷ p0 ∷ 0 ∷ 0 ∷ 0 ∷ 0 ∷ [])
+    ∷ same (tailed (bytes "conditional_drawdown_risk") 1 (one ∷ one ∷ []) two (Count 0)) (17 ∷ p0 ∷ p0 ∷ 0 ∷ 0 ∷ 0 ∷ 0 ∷ [])
+    ∷ same (tailed (bytes "conditional_drawdown_risk") 1 (one ∷ one ∷ []) one (Count 0)) (6 ∷ 0 ∷ 2 ∷ p0 ∷ p0 ∷ 0 ∷ 0 ∷ 0 ∷ 0 ∷ [])
+    -- another metric reads neither
+    ∷ same (tailed (bytes "equal_weighting") 0 [] no All) (0 ∷ half ∷ half ∷ 500000 ∷ 500000 ∷ 0 ∷ 1 ∷ [])
+    ∷ []
+
 -- ---- HRP
 
 -- a covariance of n assets; what the call says, and the bits of the weights
@@ -239,9 +268,9 @@ all [] = true
 all (b ∷ bs) = b && all bs
 
 abbrev table : List Bool
-table = trees ++ (hcaas ++ (hrps Correlation ++ (hrps DistanceOfDistances ++ roots)))
+table = trees ++ (hcaas ++ (tails ++ (hrps Correlation ++ (hrps DistanceOfDistances ++ roots))))
 
 -- "The P figures are proved as one table under one claim"
 pub figures : all table ≡ true
-unfolding same lower lowered isWord childrenTable childrenOutcome childrenRows wardF updateF before near better lesser greater offer look scanRow scanFrom scanAll both movable moved movedAll merged step copied numbered start stateAt mergeRows order.orderTable order.orderOutcome order.orderOf count below once isTree grow treeAt leaves onto split digit number isCell isNumeral numeralRead distanceNamed linkageNamed reading.clustersOf reading.isHrp reading.isHcaa reading.isName reading.isAsset reading.isJob reading.covarianceCell reading.covarianceIn reading.distanceField reading.textLines reading.readTable reading.readOutcome reading.jobIn reading.readOf reading.covarianceLaid hcaa.returnRows hcaa.returnColumns hcaa.returnCells hcaa.pricesRefused hcaa.rowsMade hcaa.columnsMade hcaa.cellsMade hcaa.covarianceOf hcaa.usedCovariance hcaa.metricOf hcaa.usedMetric hcaa.unnamed hcaa.isMean hcaa.isExponential hcaa.expectedOf hcaa.usedExpected hcaa.countOf hcaa.usedRule hcaa.nameLines hcaa.matrixRules hcaa.sharpeLines hcaa.hcaaTable hcaa.outcomeOf isTailRisk metricNamed isSharpe hierarchy.distancesOf hierarchy.rowsOf hierarchy.orderOf hierarchy.weightsOf hierarchy.roomLines hierarchy.shareLines allot.sharesOf allot.allotted allot.insideOf allot.variedOf allot.equalOf allot.spreadOf allot.dealTo sharing.splitOf sharing.scored sharing.byRisk sharing.splitBy sharing.bounded millionthsOf inMillionths inRange every millionthsTable millionthsOutcome millionthsIn millionthsLaid hrp.pricesAlone hrp.returnRows hrp.returnCells hrp.covarianceOf hrp.usedCovariance hrp.shapeLines hrp.numberLines hrp.hrpTable hrp.outcomeOf absent rowsIn otherColumns otherSize matrixLines parity.correlationsOf parity.distancesOf parity.treeDistances parity.rowsOf parity.orderOf parity.sharesOf parity.roomLines parity.riskLines bisection.factorOf bisection.splitOf bisection.halved bisection.bisected bisection.normal bisection.weightsOf tooBig misfits overLimit otherLength sizes laid first tab grid sumTo sumOn sumRows anyTo range span isNone weightsIn recip recipSum shares term varianceOf outside anyLowOf riskTable sizeTable sharesOutcome varianceOutcome varianceAnswer correlationCell anyLow clamped distanceOf distanceCell offDiagonal square between betweenCell minOf maxOf absOf clampOf finiteOf oneOver root isqrt lt le eq isNan neg add sum sub mul div ofInt round units odd trailingZeros size ieee-span climb ofFields ofBits toBits
+unfolding same lower lowered isWord childrenTable childrenOutcome childrenRows wardF updateF before near better lesser greater offer look scanRow scanFrom scanAll both movable moved movedAll merged step copied numbered start stateAt mergeRows order.orderTable order.orderOutcome order.orderOf count below once isTree grow treeAt leaves onto split digit number isCell isNumeral numeralRead distanceNamed linkageNamed reading.clustersOf reading.isHrp reading.isHcaa reading.isName reading.isAsset reading.isJob reading.covarianceCell reading.covarianceIn reading.distanceField reading.textLines reading.readTable reading.readOutcome reading.jobIn reading.readOf reading.covarianceLaid hcaa.returnRows hcaa.returnColumns hcaa.returnCells hcaa.pricesRefused hcaa.rowsMade hcaa.columnsMade hcaa.cellsMade hcaa.covarianceOf hcaa.usedCovariance hcaa.metricOf hcaa.usedMetric hcaa.unnamed hcaa.isMean hcaa.isExponential hcaa.expectedOf hcaa.usedExpected hcaa.countOf hcaa.usedRule hcaa.nameLines hcaa.matrixRules hcaa.sharpeLines hcaa.hcaaTable hcaa.outcomeOf hcaa.usedInputs metricNamed isSharpe isTailRisk tailLines nearest.noPart tail.gain tail.rowReturn tail.tailSum tail.tailCount tail.mean tail.shortfall tail.wealth tail.higher tail.peak tail.fall tail.drawdown tail.conditionalDrawdown tail.shortfallOf tail.drawdownOf ordered.minus ordered.before ordered.insert ordered.insertAll ordered.sorted nearest.wholeOf nearest.place nearest.quantile hierarchy.distancesOf hierarchy.rowsOf hierarchy.orderOf hierarchy.weightsOf hierarchy.roomLines hierarchy.shareLines allot.sharesOf allot.allotted allot.insideOf allot.variedOf allot.equalOf allot.spreadOf allot.dealTo sharing.splitOf sharing.scored sharing.byRisk sharing.splitBy sharing.bounded millionthsOf inMillionths inRange every millionthsTable millionthsOutcome millionthsIn millionthsLaid hrp.pricesAlone hrp.returnRows hrp.returnCells hrp.covarianceOf hrp.usedCovariance hrp.shapeLines hrp.numberLines hrp.hrpTable hrp.outcomeOf absent rowsIn otherColumns otherSize matrixLines parity.correlationsOf parity.distancesOf parity.treeDistances parity.rowsOf parity.orderOf parity.sharesOf parity.roomLines parity.riskLines bisection.factorOf bisection.splitOf bisection.halved bisection.bisected bisection.normal bisection.weightsOf tooBig misfits overLimit otherLength sizes laid first tab grid sumTo sumOn sumRows anyTo range span isNone weightsIn recip recipSum shares term varianceOf outside anyLowOf riskTable sizeTable sharesOutcome varianceOutcome varianceAnswer correlationCell anyLow clamped distanceOf distanceCell offDiagonal square between betweenCell minOf maxOf absOf clampOf finiteOf oneOver root isqrt lt le eq isNan neg add sum sub mul div ofInt round units odd trailingZeros size ieee-span climb ofFields ofBits toBits
 figures = refl

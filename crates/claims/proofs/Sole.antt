@@ -77,9 +77,16 @@ use Rattle.reading.proofs.name as reading·name
 use Rattle.clusters.proofs.inverse_variance_weights as clusters·inverse-variance-weights
 use Rattle.clusters.proofs.cluster_variance as clusters·cluster-variance
 use Rattle.clusters.proofs.cluster_sharpe as clusters·cluster-sharpe
+use Rattle.clusters.proofs.any_outside as clusters·any-outside
+use Rattle.ordering.proofs.sort as ordering·sort
+use Rattle.ordering.proofs.is_no_part as ordering·is-no-part
+use Rattle.ordering.proofs.quantile as ordering·quantile
+use Rattle.tails.proofs.cluster_expected_shortfall as tails·cluster-expected-shortfall
+use Rattle.tails.proofs.cluster_conditional_drawdown as tails·cluster-conditional-drawdown
 use Rattle.bisection.proofs.recursive_bisection_min_var as bisection·recursive-bisection-min-var
 use Rattle.sharing.proofs.metric_named as sharing·metric-named
 use Rattle.sharing.proofs.is_sharpe as sharing·is-sharpe
+use Rattle.sharing.proofs.is_tail_risk as sharing·is-tail-risk
 use Rattle.sharing.proofs.allocate_down_tree as sharing·allocate-down-tree
 use Rattle.parity.proofs.clear_all as parity·clear-all
 use Rattle.parity.proofs.judge_rooms as parity·judge-rooms
@@ -388,6 +395,28 @@ clusters-cluster-variance κs a r r′ e e′ p q = (sole p q, refl)
 pub clusters-cluster-sharpe : Sole clusters·cluster-sharpe.ended clusters·cluster-sharpe.Reads.Post
 clusters-cluster-sharpe κs a r r′ e e′ p q = (sole p q, refl)
 
+pub clusters-any-outside : Sole clusters·any-outside.ended clusters·any-outside.Reads.Post
+clusters-any-outside κs a r r′ e e′ p q = (sole p q, refl)
+
+-- ---- ordering: a list put in order, and its entry at a part
+
+pub ordering-sort : Sole ordering·sort.ended ordering·sort.Reads.Post
+ordering-sort κs a r r′ e e′ p q = (sole (p .0) (q .0), λ i. (sole (p .1) (q .1) i, tt))
+
+pub ordering-is-no-part : Sole ordering·is-no-part.ended ordering·is-no-part.Reads.Post
+ordering-is-no-part κs a r r′ e e′ p q = (sole p q, refl)
+
+pub ordering-quantile : Sole ordering·quantile.ended ordering·quantile.Reads.Post
+ordering-quantile κs a r r′ e e′ p q = (sole (p .0) (q .0), λ i. (sole (p .1) (q .1) i, (tt, tt)))
+
+-- ---- tails: the tail risk of a list of assets
+
+pub tails-cluster-expected-shortfall : Sole tails·cluster-expected-shortfall.ended tails·cluster-expected-shortfall.Reads.Post
+tails-cluster-expected-shortfall κs a r r′ e e′ p q = (sole (p .0) (q .0), kept5 (λ i. (tt, (tt, (tt, (sole (p .1) (q .1) i, tt))))))
+
+pub tails-cluster-conditional-drawdown : Sole tails·cluster-conditional-drawdown.ended tails·cluster-conditional-drawdown.Reads.Post
+tails-cluster-conditional-drawdown κs a r r′ e e′ p q = (sole (p .0) (q .0), kept5 (λ i. (tt, (tt, (tt, (sole (p .1) (q .1) i, tt))))))
+
 -- ---- bisection: HRP's halving of a given order
 
 pub bisection-recursive-bisection-min-var : Sole bisection·recursive-bisection-min-var.ended bisection·recursive-bisection-min-var.Reads.Post
@@ -401,8 +430,11 @@ sharing-metric-named κs a r r′ e e′ p q = (sole p q, refl)
 pub sharing-is-sharpe : Sole sharing·is-sharpe.ended sharing·is-sharpe.Reads.Post
 sharing-is-sharpe κs a r r′ e e′ p q = (sole p q, refl)
 
+pub sharing-is-tail-risk : Sole sharing·is-tail-risk.ended sharing·is-tail-risk.Reads.Post
+sharing-is-tail-risk κs a r r′ e e′ p q = (sole p q, refl)
+
 pub sharing-allocate-down-tree : Sole sharing·allocate-down-tree.ended sharing·allocate-down-tree.Reads.Post
-sharing-allocate-down-tree κs a r r′ e e′ p q = (sole (p .0) (q .0), kept5 (λ i. (tt, (tt, (tt, (tt, (sole (p .1) (q .1) i, tt)))))))
+sharing-allocate-down-tree κs a r r′ e e′ p q = (sole (p .0) (q .0), kept5 (kept5 (λ i. (tt, (tt, (tt, (sole (p .1 .0) (q .1 .0) i, (sole (p .1 .1) (q .1 .1) i, tt))))))))
 
 -- ---- parity: HRP on a covariance
 
@@ -424,7 +456,7 @@ pub hierarchy-judge-rooms : Sole hierarchy·judge-rooms.ended hierarchy·judge-r
 hierarchy-judge-rooms κs a r r′ e e′ p q = (sole p q, refl)
 
 pub hierarchy-allocate-covariance : Sole hierarchy·allocate-covariance.ended hierarchy·allocate-covariance.Reads.Post
-hierarchy-allocate-covariance κs a r r′ e e′ p q = (sole (p .answer) (q .answer), kept5 (λ i. (tt, (tt, (tt, (tt, four-laid (p .buffers) (q .buffers) i))))))
+hierarchy-allocate-covariance κs a r r′ e e′ p q = (sole (p .answer) (q .answer), kept5 (kept5 (λ i. (tt, (tt, (tt, four-laid (p .buffers) (q .buffers) i))))))
 
 -- ---- inputs: the matrices given to both allocators
 
@@ -454,7 +486,7 @@ hrp-allocate κs a r r′ e e′ p q = (sole (p .answer) (q .answer), kept5 (kep
 -- ---- hcaa: HCAA
 
 pub hcaa-allocate : Sole hcaa·allocate.ended hcaa·allocate.Reads.Post
-hcaa-allocate κs a r r′ e e′ p q = (sole (p .0 .answer) (q .0 .answer), kept5 (kept5 (kept5 (four-laid (p .0 .buffers) (q .0 .buffers)))))
+hcaa-allocate κs a r r′ e e′ p q = (sole (p .0 .answer) (q .0 .answer), kept5 (kept5 (kept5 (λ i. (tt, four-laid (p .0 .buffers) (q .0 .buffers) i)))))
 
 -- ---- millionths: weights in millionths
 
@@ -485,7 +517,7 @@ capi-rovignesc-hrp κs a r r′ e e′ p q = (sole (p .answer) (q .answer), kept
 
 pub capi-rovignesc-hcaa : Sole capi·rovignesc-hcaa.ended capi·rovignesc-hcaa.Reads.Post
 capi-rovignesc-hcaa κs a r r′ e e′ p q =
-    (sole (p .answer) (q .answer), kept5 (kept5 (kept5 (kept5 (λ i. (tt, (tt, (sole (p .buffers .rows-are) (q .buffers .rows-are) i, (sole (p .buffers .order-is) (q .buffers .order-is) i, (sole (p .buffers .weights-are) (q .buffers .weights-are) i, (sole (p .buffers .scratch-is) (q .buffers .scratch-is) i, (sole (p .asked-is) (q .asked-is) i, tt))))))))))))
+    (sole (p .answer) (q .answer), kept5 (kept5 (kept5 (kept5 (λ i. (tt, (tt, (tt, (sole (p .buffers .rows-are) (q .buffers .rows-are) i, (sole (p .buffers .order-is) (q .buffers .order-is) i, (sole (p .buffers .weights-are) (q .buffers .weights-are) i, (sole (p .buffers .scratch-is) (q .buffers .scratch-is) i, (sole (p .asked-is) (q .asked-is) i, tt)))))))))))))
 
 pub capi-rovignesc-covariance : Sole capi·rovignesc-covariance.ended capi·rovignesc-covariance.Reads.Post
 capi-rovignesc-covariance κs a r r′ e e′ p q = (sole (p .answer) (q .answer), λ i. (tt, (tt, (tt, (sole (p .cells-are) (q .cells-are) i, tt)))))
