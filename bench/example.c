@@ -32,6 +32,7 @@ static uint8_t allocate(uint8_t clusters_given, size_t clusters)
                           NULL, 0, 0,                                             /* no expected returns: only the Sharpe ratio asks for them */
                           bytes(metric), strlen(metric),
                           bytes(method), strlen(method),
+                          0.05,                                                   /* the part of the days that are bad ones: only the tail-risk metrics ask for it */
                           clusters_given, clusters,
                           NULL, 0,                                                /* prices would be taken as they are, not by the week or month */
                           bytes(distance), strlen(distance),

@@ -1,5 +1,5 @@
-// Replays recorded calls on clusters, of the bisection, of sharing down a tree, and of whole accounts of HRP and HCAA. Reads them from standard input and
-// writes the answers to standard output; both are lines of hex tokens, as oracle/README.md says. oracle/rust records them from the published Rust.
+// Replays recorded calls on clusters, their tail risks too, of the bisection, of sharing down a tree, and of whole accounts of HRP and HCAA. Reads them from
+// standard input and writes the answers to standard output; both are lines of hex tokens, as oracle/README.md says. oracle/rust records them from the published Rust.
 use clusters::Risk;
 use hcaa::Clusters;
 use lent::Answer;
@@ -25,6 +25,21 @@ struct Listed {
     columns: usize,
     len: usize,
     count: usize,
+    at: usize,
+}
+
+// A matrix alone that was read, and the place after it.
+struct Table {
+    rows: usize,
+    columns: usize,
+    len: usize,
+    at: usize,
+}
+
+// A confidence, how many doubles are lent to work by it in, and the place after them.
+struct Level {
+    confidence: f64,
+    room: usize,
     at: usize,
 }
 
@@ -59,6 +74,7 @@ struct Outset {
     linkage: Linkage,
     metric: usize,
     method: usize,
+    confidence: f64,
     clusters: Clusters,
     named: usize,
     assets: usize,
@@ -439,17 +455,17 @@ fn tell(answer: Answer, out: &[f64], told: &mut [u8], end: usize) -> usize {
     put_last(told, listed, unclean_past(out, count))
 }
 
-// A lone number is one row of one cell.
-fn tell_risk(risk: Risk, told: &mut [u8], end: usize) -> usize {
+// A lone number is one row of one cell. What it was worked out in may be left unclean.
+fn tell_risk(risk: Risk, left: usize, told: &mut [u8], end: usize) -> usize {
     match risk {
         Risk::Of(value) => {
             let sized = put_sizes(told, end, 0, 1, 1);
             let listed = put_hex(told, sized, arithmetic::to_bits(value), 16, 32);
-            put_last(told, listed, 0)
+            put_last(told, listed, left)
         }
         Risk::Refused(r) => {
             let sized = put_sizes(told, end, refusal::number(r), 0, 0);
-            put_last(told, sized, 0)
+            put_last(told, sized, left)
         }
     }
 }
@@ -510,7 +526,7 @@ fn variance(text: &[u8], from: Place, cells: &mut Cells, list: &mut Ids, told: &
     let risk = variance_of(m, cells, list);
     Place {
         at: m.at,
-        end: tell_risk(risk, told, from.end),
+        end: tell_risk(risk, 0, told, from.end),
     }
 }
 
@@ -527,7 +543,99 @@ fn sharpe(text: &[u8], from: Place, cells: &mut Cells, list: &mut Ids, told: &mu
     let risk = sharpe_of(m, width.value as usize, cells, list);
     Place {
         at: m.at,
-        end: tell_risk(risk, told, from.end),
+        end: tell_risk(risk, 0, told, from.end),
+    }
+}
+
+// ---- tail risks of clusters
+
+fn table_to(text: &[u8], at: usize, cells: &mut Cells, start: usize) -> Table {
+    let rows = next(text, at);
+    let columns = next(text, rows.at);
+    let len = doubles_to(text, columns.at, cells, start);
+    Table {
+        rows: rows.value as usize,
+        columns: columns.value as usize,
+        len: len.value as usize,
+        at: len.at,
+    }
+}
+
+fn level_at(text: &[u8], at: usize) -> Level {
+    let confidence = next(text, at);
+    let room = next(text, confidence.at);
+    Level {
+        confidence: arithmetic::from_bits(confidence.value),
+        room: room.value as usize,
+        at: room.at,
+    }
+}
+
+// The call of opcode 8 or 9: returns, a covariance and a list of assets to a risk.
+fn risk_of(
+    code: u64,
+    r: Table,
+    m: Listed,
+    confidence: f64,
+    cells: &[f64],
+    list: &[usize],
+    series: &mut [f64],
+) -> Risk {
+    let returns = part(cells, RETURNS, r.len);
+    let matrix = part(cells, 0, m.len);
+    let assets = front(list, m.count);
+    match code {
+        8 => tails::cluster_expected_shortfall(
+            returns,
+            r.rows,
+            r.columns,
+            matrix,
+            m.rows,
+            m.columns,
+            assets,
+            confidence,
+            series,
+        ),
+        _ => tails::cluster_conditional_drawdown(
+            returns,
+            r.rows,
+            r.columns,
+            matrix,
+            m.rows,
+            m.columns,
+            assets,
+            confidence,
+            series,
+        ),
+    }
+}
+
+fn tail_risk(
+    text: &[u8],
+    from: Place,
+    code: u64,
+    cells: &mut Cells,
+    list: &mut Ids,
+    told: &mut [u8],
+) -> Place {
+    let r = table_to(text, from.at, cells, RETURNS);
+    let m = matrix_and_list(text, r.at, cells, list);
+    let l = level_at(text, m.at);
+    let mut series = [1.5; 4352];
+    let room = l.room;
+    let risk = risk_of(
+        code,
+        r,
+        m,
+        l.confidence,
+        cells,
+        list,
+        lent_cells(&mut series, room),
+    );
+    let left = unclean(part(&series, 0, room));
+    Place {
+        at: l.at,
+        end: tell_risk(risk, left, told, from.end),
     }
 }
 
@@ -825,7 +933,8 @@ fn hcaa_opening(text: &[u8], at: usize, names: &mut Names) -> Outset {
     let linkage = next(text, by.at);
     let metric = name_to(text, linkage.at, names, 0);
     let method = name_to(text, metric.at, names, METHOD);
-    let given = next(text, method.at);
+    let confidence = next(text, method.at);
+    let given = next(text, confidence.at);
     let count = next(text, given.at);
     let named = name_to(text, count.at, names, NAME);
     let assets = next(text, named.at);
@@ -834,6 +943,7 @@ fn hcaa_opening(text: &[u8], at: usize, names: &mut Names) -> Outset {
         linkage: linkage_of(linkage.value),
         metric: metric.value as usize,
         method: method.value as usize,
+        confidence: arithmetic::from_bits(confidence.value),
         clusters: clusters_of(given.value, count.value as usize),
         named: named.value as usize,
         assets: assets.value as usize,
@@ -897,6 +1007,7 @@ fn hcaa_allot(
         e.given,
         byte_part(names, 0, h.metric),
         byte_part(names, METHOD, h.method),
+        h.confidence,
         clusters,
         byte_part(names, NAME, h.named),
         distance,
@@ -969,7 +1080,9 @@ fn metric_of(code: u64) -> Metric {
         0 => Metric::MinimumVariance,
         1 => Metric::MinimumStandardDeviation,
         2 => Metric::SharpeRatio,
-        _ => Metric::EqualWeighting,
+        3 => Metric::EqualWeighting,
+        4 => Metric::ExpectedShortfall,
+        _ => Metric::ConditionalDrawdownRisk,
     }
 }
 
@@ -987,26 +1100,33 @@ fn asked_sharing(text: &[u8], at: usize) -> Asked {
     }
 }
 
-fn tell_shares(answer: Answer, out: &[f64], told: &mut [u8], end: usize) -> usize {
+fn tell_shares(answer: Answer, out: &[f64], left: usize, told: &mut [u8], end: usize) -> usize {
     let n = columns_of(answer);
     let begun = put_outcome(told, end, lent::told(answer));
     let listed = put_front(told, begun, out, n);
-    put_last(told, listed, unclean_past(out, n))
+    put_last(told, listed, plus(unclean_past(out, n), left))
 }
 
 fn share(
     h: Asked,
     e: Expected,
+    r: Table,
+    confidence: f64,
     m: Listed,
     cells: &[f64],
     list: &[usize],
     out: &mut [f64],
+    scratch: &mut [f64],
 ) -> Answer {
     let metric = h.metric;
     sharing::allocate_down_tree(
         metric,
         part(cells, EXPECTED, e.len),
         e.given,
+        part(cells, RETURNS, r.len),
+        r.rows,
+        r.columns,
+        confidence,
         part(cells, 0, m.len),
         m.rows,
         m.columns,
@@ -1014,18 +1134,33 @@ fn share(
         h.assets,
         h.clusters,
         out,
+        scratch,
     )
 }
 
 fn shares(text: &[u8], from: Place, cells: &mut Cells, list: &mut Ids, told: &mut [u8]) -> Place {
     let h = asked_sharing(text, from.at);
     let e = expectation(text, h.at, cells);
-    let m = matrix_and_list(text, e.at, cells, list);
+    let r = table_to(text, e.at, cells, RETURNS);
+    let l = level_at(text, r.at);
+    let m = matrix_and_list(text, l.at, cells, list);
     let mut out = [1.5; 4352];
-    let answer = share(h, e, m, cells, list, lent_cells(&mut out, h.room));
+    let mut scratch = [1.5; 8300];
+    let answer = share(
+        h,
+        e,
+        r,
+        l.confidence,
+        m,
+        cells,
+        list,
+        lent_cells(&mut out, h.room),
+        lent_cells(&mut scratch, l.room),
+    );
+    let left = unclean(part(&scratch, 0, l.room));
     Place {
         at: m.at,
-        end: tell_shares(answer, part(&out, 0, h.room), told, from.end),
+        end: tell_shares(answer, part(&out, 0, h.room), left, told, from.end),
     }
 }
 
@@ -1039,6 +1174,7 @@ fn lone_call(text: &[u8], from: Place, code: u64, told: &mut [u8]) -> Place {
         2 => variance(text, from, &mut cells, &mut list, told),
         3 => sharpe(text, from, &mut cells, &mut list, told),
         7 => shares(text, from, &mut cells, &mut list, told),
+        8 | 9 => tail_risk(text, from, code, &mut cells, &mut list, told),
         _ => weights(text, from, code, &mut cells, &mut list, told),
     }
 }
@@ -1081,11 +1217,11 @@ fn replay(text: &[u8], start: Buffers, told: &mut [u8]) -> usize {
     end
 }
 
-// A mebibyte of zeros. Its contract gives the length alone, so that no proof looks into it.
-fn space() -> [u8; 1048576]
-    ensures { λ r. ⌜ 1048576 ≡ length r ⌝ }
+// A mebibyte and a half of zeros. Its contract gives the length alone, so that no proof looks into it.
+fn space() -> [u8; 1572864]
+    ensures { λ r. ⌜ 1572864 ≡ length r ⌝ }
 {
-    [0; 1048576]
+    [0; 1572864]
 }
 
 fn write(told: &[u8], end: usize) {

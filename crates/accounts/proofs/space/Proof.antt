@@ -1,4 +1,4 @@
--- `accounts::space` is a mebibyte. Assumes nothing.
+-- `accounts::space` is a mebibyte and a half. Assumes nothing.
 use Prim.Native.Nat.{ℕ}
 use mathlib.Core.Path.{sym}
 use lib.ListN.{length-replicate}
@@ -6,7 +6,7 @@ use Rattle.accounts.proofs.space.Statement.{statement}
 use Rattle.accounts.proofs.space.Tie as tie
 
 returns : tie.Need-returns
-returns c = sym (length-replicate {0} {A = ℕ} 1048576 0)
+returns c = sym (length-replicate {0} {A = ℕ} 1572864 0)
 
 pub space-spec : {M : Type 1} → statement M
 space-spec = tie.close (tie.spec returns)

@@ -1,6 +1,7 @@
 //! A case: what both sides are handed, how it is judged, and how a disagreeing one is made smaller.
 use crate::buffers::{Input, Lent, Verdict};
 use crate::random::Random;
+use openquant::nearest::Known;
 
 /// Everything that is handed over, kept from case to case.
 #[derive(Default)]
@@ -19,11 +20,20 @@ pub struct Desk {
     pub listing: Lent<u8>,
 }
 
+/// Where the source answers otherwise than is due, as docs/DIFFERENCES.md lists.
+#[derive(Clone, Copy)]
+pub enum Listed {
+    No,
+    /// A signalling NaN lent to the merge step.
+    Signalling,
+    /// The rules of the tail-risk metrics.
+    TailRisk(Known),
+}
+
 pub struct Judged {
     /// The refusal's number, or 0, that is due.
     pub number: u8,
-    /// The source answers otherwise, as docs/DIFFERENCES.md lists.
-    pub listed: bool,
+    pub listed: Listed,
     pub verdict: Verdict,
 }
 

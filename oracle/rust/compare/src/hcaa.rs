@@ -1,13 +1,13 @@
 //! HCAA's accounts.
 use crate::account::{bytes, text, yes, Inputs, Matrix};
 use crate::buffers::{hex, number, Verdict};
-use crate::case::{plainer, weight, weight_of_rooms, Case, Desk, Judged};
+use crate::case::{plainer, weight, weight_of_rooms, Case, Desk, Judged, Listed};
 use crate::damage;
 use crate::names;
 use crate::ours::rovignesc_hcaa;
 use crate::random::Random;
-use crate::rules::{self, need, Handed};
-use openquant::api::{self, HcaaAccount, HcaaAllocation, Refused};
+use crate::rules::{self, need};
+use openquant::api::{self, Beside, Distance, Due, HcaaAccount, HcaaAllocation, Linkage, Refused};
 
 #[derive(Clone)]
 pub struct Hcaa {
@@ -16,6 +16,7 @@ pub struct Hcaa {
     pub expected: Vec<f64>,
     pub metric: Vec<u8>,
     pub method: Vec<u8>,
+    pub confidence: f64,
     pub linkage: Vec<u8>,
     pub clusters_given: u8,
     pub clusters: usize,
@@ -29,8 +30,6 @@ pub fn needs(assets: usize) -> [usize; 5] {
     [rows, order, weights, scratch, 2]
 }
 
-type Theirs = Result<HcaaAllocation, Refused>;
-
 impl Hcaa {
     /// Several names at once, so that the order of 8, 7 and 2 is seen.
     fn spoil_names(&mut self, rng: &mut Random) {
@@ -41,15 +40,20 @@ impl Hcaa {
         }
     }
 
-    /// 9, 10, 11, 8, 7 and 12 by document 01, the rest by the source.
-    fn theirs(&self) -> Theirs {
-        let handed = self.inputs.handed();
-        rules::account(self.inputs.assets, &handed, &self.rooms, needs)?;
-        let linkage = api::linkage_named(&text(&self.linkage))?;
-        let distance = api::distance_named(&text(&self.inputs.distance))?;
-        rules::tail_risk(Handed::any(&handed), &self.metric)?;
+    /// 9, 10, 11, 8, 7.
+    fn named(&self) -> Result<(Linkage, Distance), u8> {
+        rules::account(self.inputs.assets, &self.inputs.handed(), &self.rooms, needs)?;
+        Ok((api::linkage_named(&text(&self.linkage))?, api::distance_named(&text(&self.inputs.distance))?))
+    }
+
+    /// Those by document 01, the rest by the source and, under a tail-risk metric, by document 02.
+    fn theirs(&self) -> Due<HcaaAllocation> {
+        let (linkage, distance) = match self.named() {
+            Ok(named) => named,
+            Err(number) => return Due { answer: Err(number.into()), beside: Beside::Same },
+        };
         let [prices, returns, covariance] = self.inputs.matrices.each_ref().map(Matrix::made);
-        api::hcaa_allocate(&HcaaAccount {
+        api::hcaa_due(&HcaaAccount {
             assets: self.inputs.assets,
             prices: prices.as_ref(),
             returns: returns.as_ref(),
@@ -57,6 +61,7 @@ impl Hcaa {
             expected: (self.expected_given != 0).then_some(&self.expected),
             metric: &text(&self.metric),
             method: &text(&self.method),
+            confidence: self.confidence,
             clusters: (self.clusters_given != 0).then_some(self.clusters),
             resample_by: Some(&text(&self.inputs.sampling)),
             distance,
@@ -105,6 +110,7 @@ impl Hcaa {
                 d.bytes[2].len(),
                 d.bytes[3].at(),
                 d.bytes[3].len(),
+                self.confidence,
                 self.clusters_given,
                 self.clusters,
                 d.bytes[0].at(),
@@ -127,7 +133,7 @@ impl Hcaa {
         }
     }
 
-    fn compare(&self, d: &Desk, ours: u8, theirs: &Theirs) -> Verdict {
+    fn compare(&self, d: &Desk, ours: u8, theirs: &Result<HcaaAllocation, Refused>) -> Verdict {
         let refused = theirs.as_ref().err();
         number(ours, refused.map_or(0, |r| r.number))?;
         let done = theirs.as_ref().ok();
@@ -171,6 +177,25 @@ fn clusters(rng: &mut Random, n: usize) -> usize {
     }
 }
 
+/// Mostly a part of the days; its index whole, or a whole and a half, in a list of one more, as many or one fewer than there are rows.
+fn confidence(rng: &mut Random, inputs: &Inputs) -> f64 {
+    let [prices, returns, _] = &inputs.matrices;
+    let rows = if returns.given != 0 { returns.rows } else { prices.rows };
+    match rng.below(24) {
+        0 => rng.pick(&[f64::NAN, -f64::NAN, -5e-324, -1.0, 1.0 + f64::EPSILON, 2.0, f64::INFINITY, f64::NEG_INFINITY]),
+        1 => rng.wild(),
+        2..=4 => 0.05,
+        5..=7 => 0.5,
+        8..=9 => rng.pick(&[0.0, -0.0, 1.0, 0.25, 0.75, 0.95, 5e-324, 1.0 - f64::EPSILON / 2.0]),
+        10..=17 => {
+            let last = rows.min(4096).saturating_sub(rng.below(3)).max(1);
+            let index = rng.below(last + 1) as f64 + rng.pick(&[0.0, 0.5]);
+            (index / last as f64).min(1.0)
+        }
+        _ => rng.unit(),
+    }
+}
+
 impl Case for Hcaa {
     const NAME: &'static str = "hcaa";
 
@@ -182,12 +207,14 @@ impl Case for Hcaa {
         let expected_given = if rng.below(2) == 0 { 0 } else { yes(rng) };
         let clusters_given = if rng.below(2) == 0 { 0 } else { yes(rng) };
         let expected = if expected_given != 0 || rng.below(3) == 0 { expected(rng, n) } else { Vec::new() };
+        let confidence = confidence(rng, &inputs);
         let mut made = Self {
             inputs,
             expected_given,
             expected,
             metric: names::metric(rng),
             method: names::method(rng),
+            confidence,
             linkage: names::linkage(rng),
             clusters_given,
             clusters: clusters(rng, n),
@@ -203,8 +230,13 @@ impl Case for Hcaa {
         let theirs = self.theirs();
         self.lend(desk, junk);
         let ours = self.ours(desk);
-        let verdict = self.compare(desk, ours, &theirs);
-        Judged { number: theirs.err().map_or(0, |r| r.number), listed: false, verdict }
+        let verdict = self.compare(desk, ours, &theirs.answer);
+        let (listed, verdict) = match theirs.beside {
+            Beside::Same => (Listed::No, verdict),
+            Beside::Known(met) => (Listed::TailRisk(met), verdict),
+            Beside::Unknown => (Listed::No, verdict.and(Err("the Rust differs from document 02, and not as listed".into()))),
+        };
+        Judged { number: theirs.answer.err().map_or(0, |r| r.number), listed, verdict }
     }
 
     fn size(&self) -> usize {
@@ -212,18 +244,20 @@ impl Case for Hcaa {
         let names = self.metric.len() + self.method.len() + self.linkage.len();
         let expected: usize = self.expected.iter().map(|&x| weight(x)).sum();
         let rooms = weight_of_rooms(&self.rooms, &needs(self.inputs.assets.min(65)));
-        self.inputs.size() + flags + names + expected + self.clusters.min(99) + rooms
+        self.inputs.size() + flags + names + weight(self.confidence) + expected + self.clusters.min(99) + rooms
     }
 
     fn show(&self) -> String {
         format!(
-            "{}expected: {}, {} entries{}\nmetric: {}\nmethod: {}\nlinkage: {}\nclusters: given {}, {}\nrooms of {}: {:?}\n",
+            "{}expected: {}, {} entries{}\nmetric: {}\nmethod: {}\nconfidence: {:016x} ({})\nlinkage: {}\nclusters: given {}, {}\nrooms of {}: {:?}\n",
             self.inputs.show(),
             if self.expected_given == 0 { "absent" } else { "given" },
             self.expected.len(),
             hex(&self.expected),
             bytes(&self.metric),
             bytes(&self.method),
+            self.confidence.to_bits(),
+            self.confidence,
             bytes(&self.linkage),
             self.clusters_given,
             self.clusters,
@@ -259,6 +293,9 @@ impl Case for Hcaa {
         out.push(change(|a| a.method = b"mean".to_vec()));
         out.push(change(|a| a.metric = b"minimum_variance".to_vec()));
         out.push(change(|a| a.metric = b"sharpe_ratio".to_vec()));
+        out.push(change(|a| a.metric = b"expected_shortfall".to_vec()));
+        out.push(change(|a| a.confidence = 0.0));
+        out.push(change(|a| a.confidence = 1.0));
         if self.inputs.assets <= 64 {
             out.push(change(|a| a.rooms = needs(a.inputs.assets)));
         }

@@ -1,7 +1,7 @@
 //! HRP's accounts.
 use crate::account::{text, yes, Inputs, Matrix};
 use crate::buffers::{number, Verdict};
-use crate::case::{weight_of_rooms, Case, Desk, Judged};
+use crate::case::{weight_of_rooms, Case, Desk, Judged, Listed};
 use crate::damage;
 use crate::matrices::cells;
 use crate::ours::rovignesc_hrp;
@@ -115,7 +115,7 @@ impl Case for Hrp {
         self.lend(desk, junk);
         let ours = self.ours(desk);
         let verdict = self.compare(desk, ours, &theirs);
-        Judged { number: theirs.err().unwrap_or(0), listed: false, verdict }
+        Judged { number: theirs.err().unwrap_or(0), listed: Listed::No, verdict }
     }
 
     fn size(&self) -> usize {

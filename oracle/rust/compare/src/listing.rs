@@ -1,6 +1,6 @@
 //! Job texts to listings.
 use crate::buffers::number;
-use crate::case::{weight_of_rooms, Case, Desk, Judged};
+use crate::case::{weight_of_rooms, Case, Desk, Judged, Listed};
 use crate::ours::rovignesc_listing;
 use crate::random::Random;
 use crate::sheet::{self, LISTING_ROOM};
@@ -46,7 +46,7 @@ impl Case for Listing {
             .and_then(|()| desk.listing.holds("listing", &listing))
             .and_then(|()| desk.count.holds("bytes", count.as_slice()))
             .and_then(|()| desk.bytes[0].unchanged("text", &self.text));
-        Judged { number: due, listed: false, verdict }
+        Judged { number: due, listed: Listed::No, verdict }
     }
 
     fn size(&self) -> usize {

@@ -1,6 +1,6 @@
 //! `compare SEED COUNT [FIRST]`: hands so many cases, each made from the seed and its own number, to our library and to the Rust, and says where they
 //! disagree. The status is 1 where they do.
-use compare::case::{shrunk, Case, Desk};
+use compare::case::{shrunk, Case, Desk, Listed};
 use compare::hcaa::Hcaa;
 use compare::hrp::Hrp;
 use compare::listing::Listing;
@@ -42,7 +42,12 @@ struct Smallest {
 struct Tally {
     /// How many cases of each call ended with each number.
     ends: BTreeMap<(&'static str, u8), u64>,
-    listed: u64,
+    /// Cases in which the Rust differs as listed: by a signalling NaN, and by the tail-risk rules in all and by each of them.
+    signalling: u64,
+    tail_risk: u64,
+    halves: u64,
+    minus_nans: u64,
+    confidences: u64,
     disagree: u64,
     shrinks: usize,
     smallest: Option<Smallest>,
@@ -54,7 +59,16 @@ impl Tally {
         let junk = rng.bits();
         let judged = case.judge(desk, &mut Random::new(junk));
         *self.ends.entry((C::NAME, judged.number)).or_default() += 1;
-        self.listed += judged.listed as u64;
+        match judged.listed {
+            Listed::No => {}
+            Listed::Signalling => self.signalling += 1,
+            Listed::TailRisk(met) => {
+                self.tail_risk += 1;
+                self.halves += met.half as u64;
+                self.minus_nans += met.minus_nan as u64;
+                self.confidences += met.confidence as u64;
+            }
+        }
         if judged.verdict.is_err() {
             self.disagree += 1;
             self.keep(case, desk, seed, at, junk);
@@ -85,7 +99,11 @@ impl Tally {
         if let Some(smallest) = &self.smallest {
             print!("the smallest that disagrees\n{}", smallest.text);
         }
-        println!("{} where the Rust differs as docs/DIFFERENCES.md lists (a signalling NaN lent to the merge step)", self.listed);
+        println!(
+            "where the Rust differs as docs/DIFFERENCES.md lists: {} by a signalling NaN lent to the merge step, {} by the tail-risk rules (a half in {}, \
+             a NaN with a minus sign in {}, a clamped confidence in {})",
+            self.signalling, self.tail_risk, self.halves, self.minus_nans, self.confidences
+        );
         println!("{count} cases, {} disagree", self.disagree);
     }
 }

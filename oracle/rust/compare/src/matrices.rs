@@ -99,12 +99,17 @@ pub fn a_covariance(rng: &mut Random, n: usize) -> Vec<f64> {
     rng.pick(&COVARIANCES)(rng, n)
 }
 
+const NO_DAYS: [f64; 5] = [f64::NAN, -f64::NAN, f64::INFINITY, f64::NEG_INFINITY, f64::MAX];
+
 pub fn returns(rng: &mut Random, rows: usize, n: usize) -> Vec<f64> {
     let count = rows * n;
-    match rng.below(12) {
+    match rng.below(14) {
         0 => filled(count, || rng.seldom(6, 0.25)),
         1 => filled(count, || rng.wild()),
         2 => filled(count, || rng.pick(&[0.0, 0.01, -0.01])),
+        // A day here and there that is no number, or has no end; losses of everything and more.
+        12 => filled(count, || if rng.below(12) == 0 { rng.pick(&NO_DAYS) } else { rng.gain() }),
+        13 => filled(count, || rng.pick(&[-0.5, -1.0, -2.0, 0.0, 0.5, 1.0])),
         3 => {
             let scale = power_of_two(rng);
             filled(count, || rng.gain() * scale)

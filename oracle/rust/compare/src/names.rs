@@ -42,12 +42,17 @@ pub fn linkage(rng: &mut Random) -> Vec<u8> {
 
 /// Case matters here, so it seldom changes.
 pub fn metric(rng: &mut Random) -> Vec<u8> {
-    let known = ["minimum_variance", "minimum_standard_deviation", "sharpe_ratio", "equal_weighting"];
+    let plain = ["minimum_variance", "minimum_standard_deviation", "sharpe_ratio", "equal_weighting"];
+    let tails = ["expected_shortfall", "conditional_drawdown_risk"];
     match rng.below(40) {
-        0 => spoiled(rng, "equal_weighting"),
-        1 => named(rng, &known),
-        2 => named(rng, &["expected_shortfall", "conditional_drawdown_risk"]),
-        _ => rng.pick(&known).into(),
+        0 => {
+            let name = rng.pick(&["equal_weighting", "expected_shortfall"]);
+            spoiled(rng, name)
+        }
+        1 => named(rng, &plain),
+        2 => named(rng, &tails),
+        3..=16 => rng.pick(&tails).into(),
+        _ => rng.pick(&plain).into(),
     }
 }
 

@@ -63,6 +63,7 @@ extern "C" {
         metric_len: usize,
         method: *const u8,
         method_len: usize,
+        confidence: f64,
         clusters_given: u8,
         clusters: usize,
         resample_by: *const u8,

@@ -1,5 +1,4 @@
 //! Document 01's job text and listing, read and written here from its words alone, and the source's allocators between.
-use crate::rules;
 use nalgebra::DMatrix;
 use openquant::api::{self, Account, Distance, HcaaAccount, Linkage};
 
@@ -96,6 +95,7 @@ fn hrp(assets: usize, covariance: &DMatrix<f64>, distance: &[u8]) -> Result<Answ
     api::hrp_allocate(&account).map(|a| Answer { weights: a.weights, order: a.order })
 }
 
+/// A text has no return rows, so that the tail-risk metrics are the source's 16 and no confidence is looked at.
 fn hcaa(
     assets: usize,
     covariance: &DMatrix<f64>,
@@ -104,7 +104,6 @@ fn hcaa(
     distance: Distance,
     clusters: Option<usize>,
 ) -> Result<Answer, u8> {
-    rules::tail_risk(true, metric)?;
     let account = HcaaAccount {
         assets,
         prices: None,
@@ -113,6 +112,7 @@ fn hcaa(
         expected: None,
         metric: &String::from_utf8_lossy(metric),
         method: "mean",
+        confidence: 0.05,
         clusters,
         resample_by: None,
         distance,
@@ -232,7 +232,13 @@ C\t0000000000000000\t0000000000000000\t3ff0000000000000
         assert_eq!(number("hcaa\tx\t\tx\t-\n"), 8);
         assert_eq!(number("hcaa\tx\tward\tx\t-\n"), 7);
         assert_eq!(number("hcaa\tx\tward\tcorrelation\t-\n"), 2);
-        assert_eq!(number("hcaa\texpected_shortfall\tward\tcorrelation\t-\n"), 12);
+        assert_eq!(number("hcaa\texpected_shortfall\tward\tcorrelation\t-\n"), 1);
+        // 16 is before 6, and a variance of 0 after both.
+        for (count, variance) in [("-", "3ff0000000000000"), ("0", "3ff0000000000000"), ("2", "0000000000000000")] {
+            for metric in ["expected_shortfall", "conditional_drawdown_risk"] {
+                assert_eq!(number(&format!("hcaa\t{metric}\tward\tcorrelation\t{count}\nA\t{variance}\n")), 16);
+            }
+        }
         assert_eq!(number("hcaa\tsharpe_ratio\tward\tcorrelation\t-\n"), 1);
         assert_eq!(number("hcaa\tsharpe_ratio\tward\tcorrelation\t0\nA\t3ff0000000000000\n"), 4);
         assert_eq!(number("hrp\tcorrelation\nA\t3ff0000000000000\n"), 0);

@@ -1,7 +1,7 @@
 //! The covariance, the merge step, the leaf order and the square root.
 use crate::account::{bytes, text};
 use crate::buffers::{hex, number, Entry};
-use crate::case::{plainer, weight, weight_of_rooms, Case, Desk, Judged};
+use crate::case::{plainer, weight, weight_of_rooms, Case, Desk, Judged, Listed};
 use crate::damage;
 use crate::kinds::{any_tree, quiet, DISTANCES};
 use crate::matrices;
@@ -132,7 +132,7 @@ impl Case for Covariance {
         let verdict = number(ours, due)
             .and_then(|()| desk.covariance.holds("covariance", theirs.as_deref().unwrap_or(&[])))
             .and_then(|()| desk.doubles[0].unchanged("returns", &self.0.cells));
-        Judged { number: due, listed: false, verdict }
+        Judged { number: due, listed: Listed::No, verdict }
     }
 
     fn size(&self) -> usize {
@@ -219,7 +219,7 @@ impl Case for Merge {
             .and_then(|()| desk.rows.holds("rows", theirs.as_deref().unwrap_or(&[])))
             .and_then(|()| desk.doubles[0].unchanged("distances", cells))
             .and_then(|()| desk.bytes[0].unchanged("linkage", &self.linkage));
-        Judged { number: due, listed: raw != theirs, verdict }
+        Judged { number: due, listed: if raw == theirs { Listed::No } else { Listed::Signalling }, verdict }
     }
 
     fn size(&self) -> usize {
@@ -323,7 +323,7 @@ impl Case for Leaves {
             .and_then(|()| desk.order.holds("order", theirs.as_deref().unwrap_or(&[])))
             .and_then(|()| desk.count.holds("leaves", count.as_slice()))
             .and_then(|()| desk.numbers.unchanged("rows", &self.ids));
-        Judged { number: due, listed: false, verdict }
+        Judged { number: due, listed: Listed::No, verdict }
     }
 
     fn size(&self) -> usize {
@@ -380,7 +380,7 @@ impl Case for Roots {
             }
             Err(format!("of {:016x}: {ours:016x}, should be {due:016x}", x.to_bits()))
         });
-        Judged { number: 0, listed: false, verdict }
+        Judged { number: 0, listed: Listed::No, verdict }
     }
 
     fn size(&self) -> usize {

@@ -1,24 +1,25 @@
 //! The source's inner steps, for a recorder. A refusal is document 01's number. Where hrp.rs and hcaa.rs have a copy each, both are
 //! run and have to agree.
-use crate::hcaa::{HcaaDistance, HcaaError, HcaaLinkage, HierarchicalClusteringAssetAllocation};
+use crate::hcaa::{HcaaDistance, HcaaLinkage};
 use crate::hrp::{HierarchicalRiskParity, HrpDistance, HrpError};
-use crate::{hcaa_open, hrp_open};
+use crate::nearest::{noted, Known};
+use crate::{hcaa_open, hcaa_ruled, hrp_open};
 use nalgebra::DMatrix;
 use std::sync::OnceLock;
 
-pub use crate::hcaa_open::door::{allocate_down_tree, cluster_sharpe, exponential_expected_returns, mean_expected_returns};
+pub use crate::hcaa_open::door::{cluster_sharpe, exponential_expected_returns, mean_expected_returns};
 pub use crate::hrp_open::door::{recursive_bisection_min_var, seriate_matrix, shrink_covariance};
 
 type Answer = Result<DMatrix<f64>, u8>;
 
 /// Numbers by their bits, any NaN for any other.
-fn bits(m: &DMatrix<f64>) -> Vec<u64> {
-    let cells = (0..m.nrows()).flat_map(|r| (0..m.ncols()).map(move |c| m[(r, c)]));
-    cells.map(|x| if x.is_nan() { f64::NAN.to_bits() } else { x.to_bits() }).collect()
+fn bits(cells: impl IntoIterator<Item = f64>) -> Vec<u64> {
+    cells.into_iter().map(|x| if x.is_nan() { f64::NAN.to_bits() } else { x.to_bits() }).collect()
 }
 
 fn agreed(a: Answer, b: Answer) -> Answer {
-    let seen = |m: &DMatrix<f64>| (m.nrows(), m.ncols(), bits(m));
+    let cells = |m: &DMatrix<f64>| bits((0..m.nrows()).flat_map(|r| (0..m.ncols()).map(move |c| m[(r, c)])));
+    let seen = |m: &DMatrix<f64>| (m.nrows(), m.ncols(), cells(m));
     assert_eq!(a.as_ref().map(seen), b.as_ref().map(seen));
     a
 }
@@ -202,6 +203,7 @@ impl From<u8> for Refused {
 }
 
 /// What HCAA's public call is handed, and how its allocator was made.
+#[derive(Clone, Copy)]
 pub struct HcaaAccount<'a> {
     pub assets: usize,
     pub prices: Option<&'a DMatrix<f64>>,
@@ -210,6 +212,7 @@ pub struct HcaaAccount<'a> {
     pub expected: Option<&'a [f64]>,
     pub metric: &'a str,
     pub method: &'a str,
+    pub confidence: f64,
     pub clusters: Option<usize>,
     pub resample_by: Option<&'a str>,
     pub distance: Distance,
@@ -222,21 +225,144 @@ pub struct HcaaAllocation {
     pub weights: Vec<f64>,
 }
 
-/// The tail-risk metrics, which take a level of confidence, are 12 before this is called.
-pub fn hcaa_allocate(account: &HcaaAccount) -> Result<HcaaAllocation, Refused> {
-    let mut model = HierarchicalClusteringAssetAllocation::new(account.method);
-    model.distance = account.distance.hcaa();
-    model.linkage = account.linkage.hcaa();
-    let HcaaAccount { prices, returns, covariance, expected, metric, clusters, resample_by, .. } = *account;
-    let said = model.allocate(names(account.assets), prices, returns, covariance, expected, metric, 0.05, clusters, resample_by);
-    said.map_err(|e| match e {
-        HcaaError::NoData => 1.into(),
-        HcaaError::UnknownAllocationMetric(_) => 2.into(),
-        HcaaError::DimensionMismatch(_) => 3.into(),
-        HcaaError::MissingExpectedReturnsForSharpe => 4.into(),
-        HcaaError::UnknownReturns(_) => 5.into(),
-        HcaaError::InvalidNumClusters { requested, assets } => Refused { number: 6, asked: [requested, assets] },
-        other => panic!("allocate gives no {other}"),
-    })?;
-    Ok(HcaaAllocation { rows: model.clusters.concat(), order: model.ordered_indices, weights: model.weights })
+/// `allocate` of one of the modules that have hcaa.rs.
+macro_rules! hcaa_of {
+    ($name:ident, $module:ident) => {
+        pub fn $name(account: &HcaaAccount) -> Result<HcaaAllocation, Refused> {
+            use crate::$module::{HcaaDistance, HcaaError, HcaaLinkage, HierarchicalClusteringAssetAllocation};
+            let mut model = HierarchicalClusteringAssetAllocation::new(account.method);
+            model.distance = match account.distance {
+                Distance::Correlation => HcaaDistance::Correlation,
+                Distance::DistanceOfDistances => HcaaDistance::DistanceOfDistances,
+            };
+            model.linkage = match account.linkage {
+                Linkage::Single => HcaaLinkage::Single,
+                Linkage::Complete => HcaaLinkage::Complete,
+                Linkage::Average => HcaaLinkage::Average,
+                Linkage::Ward => HcaaLinkage::Ward,
+            };
+            let HcaaAccount { prices, returns, covariance, expected, metric, confidence, clusters, resample_by, .. } = *account;
+            let names = names(account.assets);
+            let said = model.allocate(names, prices, returns, covariance, expected, metric, confidence, clusters, resample_by);
+            said.map_err(|e| match e {
+                HcaaError::NoData => 1.into(),
+                HcaaError::UnknownAllocationMetric(_) => 2.into(),
+                HcaaError::DimensionMismatch(_) => 3.into(),
+                HcaaError::MissingExpectedReturnsForSharpe => 4.into(),
+                HcaaError::UnknownReturns(_) => 5.into(),
+                HcaaError::InvalidNumClusters { requested, assets } => Refused { number: 6, asked: [requested, assets] },
+                HcaaError::MissingReturnsForTailRisk => 16.into(),
+                other => panic!("allocate gives no {other}"),
+            })?;
+            Ok(HcaaAllocation { rows: model.clusters.concat(), order: model.ordered_indices, weights: model.weights })
+        }
+    };
+}
+
+// The source unchanged, and with document 02's Nearest rule.
+hcaa_of!(hcaa_allocate, hcaa);
+hcaa_of!(hcaa_allocate_ruled, hcaa_ruled);
+
+pub fn is_tail_risk(metric: &str) -> bool {
+    matches!(metric, "expected_shortfall" | "conditional_drawdown_risk")
+}
+
+/// 17: "confidence NaN or outside 0 to 1".
+pub fn is_confidence(x: f64) -> bool {
+    (0.0..=1.0).contains(&x)
+}
+
+/// How the source, unchanged, answers.
+#[derive(Clone, Copy, PartialEq, Debug)]
+pub enum Beside {
+    Same,
+    /// Otherwise, where a known difference is met.
+    Known(Known),
+    /// Otherwise, where none is.
+    Unknown,
+}
+
+/// What document 02 expects, and how the source answers beside it.
+pub struct Due<T> {
+    pub answer: Result<T, Refused>,
+    pub beside: Beside,
+}
+
+impl<T> Due<T> {
+    fn of<S: PartialEq>(answer: Result<T, Refused>, source: &Result<T, Refused>, met: Known, seen: impl Fn(&T) -> S) -> Self {
+        let beside = match (answer.as_ref().map(&seen) == source.as_ref().map(&seen), met.any()) {
+            (true, _) => Beside::Same,
+            (false, true) => Beside::Known(met),
+            (false, false) => Beside::Unknown,
+        };
+        Self { answer, beside }
+    }
+
+    /// For a recorder, which has no other way to say so.
+    pub fn known(self) -> Result<T, Refused> {
+        assert_ne!(self.beside, Beside::Unknown, "the source and document 02 part, and no known difference is met");
+        self.answer
+    }
+}
+
+/// Under a tail-risk metric the ruled copy's answer, and 17 where the confidence is none and nothing before it refuses: asked for no clusters
+/// at all, the source then comes as far as its 6. Under any other metric the source's answer.
+pub fn hcaa_due(account: &HcaaAccount) -> Due<HcaaAllocation> {
+    let source = hcaa_allocate(account);
+    if !is_tail_risk(account.metric) {
+        return Due { answer: source, beside: Beside::Same };
+    }
+    let (answer, met) = if is_confidence(account.confidence) {
+        noted(|| hcaa_allocate_ruled(account))
+    } else {
+        let before = match hcaa_allocate(&HcaaAccount { clusters: Some(0), ..*account }) {
+            Err(Refused { number: 6, .. }) => 17.into(),
+            Err(refused) => refused,
+            Ok(_) => panic!("no clusters are accepted"),
+        };
+        (Err(before), Known { confidence: true, ..Known::default() })
+    };
+    Due::of(answer, &source, met, |a| (a.rows.clone(), a.order.clone(), bits(a.weights.iter().copied())))
+}
+
+/// What a weight is shared down by.
+pub struct Sharing<'a> {
+    pub rows: &'a [[usize; 2]],
+    pub assets: usize,
+    pub clusters: usize,
+    pub metric: &'a str,
+    pub expected: &'a [f64],
+    pub returns: &'a DMatrix<f64>,
+    pub covariance: &'a DMatrix<f64>,
+    pub confidence: f64,
+}
+
+/// Where document 02 has no refusal before the recursion's own.
+pub fn sharing_due(s: &Sharing) -> Due<Vec<f64>> {
+    let (answer, met) = noted(|| hcaa_ruled::door::allocate_down_tree(s));
+    let source = hcaa_open::door::allocate_down_tree(s);
+    Due::of(answer.map_err(Refused::from), &source.map_err(Refused::from), met, |w| bits(w.iter().copied()))
+}
+
+/// The two measures of a list of assets.
+#[derive(Clone, Copy, PartialEq, Debug)]
+pub enum Tail {
+    ExpectedShortfall,
+    ConditionalDrawdown,
+}
+
+/// Likewise.
+pub fn tail_due(tail: Tail, returns: &DMatrix<f64>, cov: &DMatrix<f64>, confidence: f64, assets: &[usize]) -> Due<f64> {
+    let (ruled, source) = match tail {
+        Tail::ExpectedShortfall => {
+            let ruled = || hcaa_ruled::door::cluster_expected_shortfall(returns, cov, confidence, assets);
+            (noted(ruled), hcaa_open::door::cluster_expected_shortfall(returns, cov, confidence, assets))
+        }
+        Tail::ConditionalDrawdown => {
+            let ruled = || hcaa_ruled::door::cluster_conditional_drawdown(returns, cov, confidence, assets);
+            (noted(ruled), hcaa_open::door::cluster_conditional_drawdown(returns, cov, confidence, assets))
+        }
+    };
+    let (answer, met) = ruled;
+    Due::of(answer.map_err(Refused::from), &source.map_err(Refused::from), met, |&x| bits([x]))
 }

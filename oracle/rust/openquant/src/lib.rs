@@ -11,6 +11,7 @@ pub mod util {
 }
 
 pub mod api;
+pub mod nearest;
 
 /// hrp.rs once more, with a door to its private functions.
 mod hrp_open {
@@ -70,66 +71,16 @@ mod hcaa_open {
     include!(concat!(env!("OUT_DIR"), "/hcaa.rs"));
 
     pub(crate) mod door {
-        use super::{DMatrix, HcaaError, MetricInputs};
+        include!("hcaa_door.rs");
+    }
+}
 
-        fn number(e: HcaaError) -> u8 {
-            match e {
-                HcaaError::NoData => 1,
-                HcaaError::DimensionMismatch(_) => 3,
-                other => panic!("no inner step gives {other}"),
-            }
-        }
+/// And a third time, with document 02's Nearest rule in the place of its own.
+#[allow(unused_imports)]
+mod hcaa_ruled {
+    include!(concat!(env!("OUT_DIR"), "/hcaa_ruled.rs"));
 
-        pub fn returns_from_prices(prices: &DMatrix<f64>) -> Result<DMatrix<f64>, u8> {
-            super::returns_from_prices(prices).map_err(number)
-        }
-
-        pub fn covariance(returns: &DMatrix<f64>) -> Result<DMatrix<f64>, u8> {
-            super::covariance(returns).map_err(number)
-        }
-
-        pub fn cov2corr(cov: &DMatrix<f64>) -> Result<DMatrix<f64>, u8> {
-            super::cov2corr(cov).map_err(number)
-        }
-
-        pub fn mean_expected_returns(returns: &DMatrix<f64>) -> Vec<f64> {
-            super::mean_expected_returns(returns)
-        }
-
-        pub fn exponential_expected_returns(returns: &DMatrix<f64>) -> Vec<f64> {
-            super::exponential_expected_returns(returns, 500)
-        }
-
-        pub fn corr_to_distances(corr: &DMatrix<f64>) -> DMatrix<f64> {
-            super::corr_to_distances(corr)
-        }
-
-        pub fn inverse_variance_weights(cov: &DMatrix<f64>, assets: &[usize]) -> Result<Vec<f64>, u8> {
-            super::inverse_variance_weights(cov, assets).map_err(number)
-        }
-
-        pub fn cluster_variance(cov: &DMatrix<f64>, assets: &[usize]) -> Result<f64, u8> {
-            super::cluster_variance(cov, assets).map_err(number)
-        }
-
-        pub fn cluster_sharpe(expected: &[f64], cov: &DMatrix<f64>, assets: &[usize]) -> Result<f64, u8> {
-            super::cluster_sharpe(expected, cov, assets).map_err(number)
-        }
-
-        /// From the last row's node with weight 1, as `allocate` calls it.
-        pub fn allocate_down_tree(
-            rows: &[[usize; 2]],
-            assets: usize,
-            clusters: usize,
-            metric: &str,
-            expected: &[f64],
-            cov: &DMatrix<f64>,
-        ) -> Result<Vec<f64>, u8> {
-            let returns = DMatrix::zeros(0, assets);
-            let inputs = MetricInputs { expected, returns: &returns, cov, metric, confidence_level: 0.05 };
-            let mut weights = vec![0.0; assets];
-            super::allocate_down_tree(rows, assets, clusters, 2 * assets - 2, 1.0, &inputs, &mut weights).map_err(number)?;
-            Ok(weights)
-        }
+    pub(crate) mod door {
+        include!("hcaa_door.rs");
     }
 }

@@ -73,7 +73,7 @@ fn cells(m: &DMatrix<f64>) -> Vec<f64> {
     }
 }
 
-fn row(cells: Vec<f64>) -> Table {
+pub fn row(cells: Vec<f64>) -> Table {
     Table { rows: 1, columns: cells.len(), cells: Cells::Doubles(cells) }
 }
 

@@ -504,4 +504,5 @@ pub fn all(out: &mut Record, rng: &mut Random) {
     bisections(out, rng);
     accounts(out, rng);
     crate::hcaa_cases::all(out, rng);
+    crate::tail_cases::all(out, rng);
 }

@@ -124,6 +124,10 @@ impl Line {
         self
     }
 
+    pub fn double(self, x: f64) -> Self {
+        self.doubles(&[x], f64::to_bits)
+    }
+
     /// `len`, and so many doubles.
     pub fn cells(self, list: &[f64]) -> Self {
         self.number(list.len()).doubles(list, f64::to_bits)

@@ -3,7 +3,7 @@ use crate::account_calls::{Hrp, Matrix};
 use crate::account_cases::{figures, from_prices, from_returns, given, prices, resized, returns, shorten, DISTANCES};
 use crate::calls::Record;
 use crate::cases::{HUGE, METHODS};
-use crate::hcaa_calls::{Down, Hcaa, METRICS};
+use crate::hcaa_calls::{Down, Hcaa, Lone, PLAIN};
 use crate::kinds::{any_tree, covariance, diagonal, filled, mirrored, square, wild};
 use crate::random::{Random, ODD};
 use crate::rules::need;
@@ -12,12 +12,12 @@ use openquant::api::Linkage;
 /// More than any account needs.
 const WHOLE: [usize; 4] = [200, 100, 100, 8300];
 
-fn whole(account: &Hcaa) -> Hcaa {
+pub fn whole(account: &Hcaa) -> Hcaa {
     Hcaa { rooms: WHOLE, ..account.clone() }
 }
 
 /// Any linkage and distance.
-fn mixed(account: Hcaa, rng: &mut Random) -> Hcaa {
+pub fn mixed(account: Hcaa, rng: &mut Random) -> Hcaa {
     Hcaa { linkage: rng.pick(&METHODS), distance: rng.pick(&DISTANCES), ..account }
 }
 
@@ -64,7 +64,7 @@ fn one_after_another(out: &mut Record, rng: &mut Random) {
 }
 
 /// An account of 2 assets that one sentence of document 01 refuses, or none does, or that a later sentence no longer sees.
-type Flaw = fn(&mut Hcaa);
+pub type Flaw = fn(&mut Hcaa);
 
 const FLAWS: [Flaw; 69] = [
     |a| a.assets = 65,
@@ -94,7 +94,7 @@ const FLAWS: [Flaw; 69] = [
     |a| a.matrices[0].given = false,
     |a| a.matrices[1].given = false,
     |a| a.matrices[2].given = false,
-    // 2, by its case too, and 12.
+    // 2, by its case too; of tail risk, so 16 where there are no return rows.
     |a| a.metric = b"Equal_weighting".to_vec(),
     |a| a.metric = Vec::new(),
     |a| a.metric = b"minimum_variance ".to_vec(),
@@ -153,13 +153,12 @@ const FLAWS: [Flaw; 69] = [
 ];
 
 /// Document 01's order for HCAA, from 9 to a side: a flaw for each of its sentences, of an account by Sharpe from prices and a covariance.
-const ORDER: [Flaw; 16] = [
+const ORDER: [Flaw; 15] = [
     |a| (a.matrices[2].rows, a.matrices[2].columns) = (65, 64),
     |a| shorten(&mut a.matrices[2]),
     |a| a.rooms[1] = 1,
     |a| a.matrices.iter_mut().for_each(|m| m.given = false),
     |a| a.metric = b"sharpe".to_vec(),
-    |a| a.metric = b"expected_shortfall".to_vec(),
     |a| a.assets = 0,
     |a| a.matrices[0].cells[1] = 0.0,
     |a| resized(&mut a.matrices[0], 4, 3),
@@ -172,14 +171,14 @@ const ORDER: [Flaw; 16] = [
     |a| a.matrices[2].cells[0] = f64::INFINITY,
 ];
 
-/// Every two sentences at once; the earlier one's flaw is made last, so that it stays.
-fn pairs(out: &mut Record, base: &Hcaa) {
-    for (k, earlier) in ORDER.iter().enumerate() {
-        for later in &ORDER[k + 1..] {
-            let mut account = base.clone();
-            later(&mut account);
-            earlier(&mut account);
-            out.hcaa_allocate(&account);
+/// Each sentence with those that come after it, so many of them, at once; the earlier one's flaw is made last, so that it stays.
+pub fn pairs<T: Clone>(order: &[fn(&mut T)], after: usize, base: &T, mut call: impl FnMut(&T)) {
+    for (k, earlier) in order.iter().enumerate() {
+        for later in order[k + 1..].iter().take(after) {
+            let mut both = base.clone();
+            later(&mut both);
+            earlier(&mut both);
+            call(&both);
         }
     }
 }
@@ -200,7 +199,7 @@ fn refusals(out: &mut Record, rng: &mut Random) {
     let bases: Vec<Hcaa> = (0..8).map(|k| kept(&made, k)).collect();
     // Each way to give and leave out, by every metric.
     for base in &bases {
-        for metric in METRICS {
+        for metric in PLAIN {
             out.hcaa_allocate(&Hcaa { metric: metric.into(), ..base.clone() });
         }
     }
@@ -212,7 +211,7 @@ fn refusals(out: &mut Record, rng: &mut Random) {
         }
     }
     // Two or three flaws at once: the first sentence is the answer's.
-    pairs(out, &Hcaa { metric: b"sharpe_ratio".to_vec(), ..bases[5].clone() });
+    pairs(&ORDER, ORDER.len(), &Hcaa { metric: b"sharpe_ratio".to_vec(), ..bases[5].clone() }, |account| out.hcaa_allocate(account));
     for _ in 0..80 {
         let mut account = mixed(bases[rng.below(8)].clone(), rng);
         for _ in 0..2 + rng.below(2) {
@@ -244,13 +243,13 @@ fn refusals(out: &mut Record, rng: &mut Random) {
 fn figured(out: &mut Record, rng: &mut Random) {
     for clusters in [None, Some(0), Some(1), Some(2), Some(3), Some(4)] {
         out.hcaa_allocate(&worked(clusters));
-        for metric in &METRICS[..2] {
+        for metric in &PLAIN[..2] {
             out.hcaa_allocate(&Hcaa { metric: metric.as_bytes().to_vec(), ..worked(clusters) });
         }
         out.hcaa_allocate(&expecting(vec![0.1, 0.2, 0.3], Hcaa { metric: b"sharpe_ratio".to_vec(), ..worked(clusters) }));
     }
     for (n, cov) in figures() {
-        for metric in METRICS {
+        for metric in PLAIN {
             let clusters = [None, Some(1 + rng.below(n))][rng.below(2)];
             let account = Hcaa { clusters, ..Hcaa::new(metric, n, given(n, cov.clone())) };
             out.hcaa_allocate(&mixed(expecting(filled(n, || 0.2 + rng.gain()), account), rng));
@@ -268,7 +267,7 @@ fn figured(out: &mut Record, rng: &mut Random) {
             let mut cov = square(3, |i, j| if i == j { 1.0 + i as f64 } else { 0.25 });
             cov[place] = odd;
             let clusters = Some(1 + rng.below(3));
-            let account = Hcaa { clusters, ..Hcaa::new(rng.pick(&METRICS), 3, given(3, cov)) };
+            let account = Hcaa { clusters, ..Hcaa::new(rng.pick(&PLAIN), 3, given(3, cov)) };
             out.hcaa_allocate(&mixed(expecting(vec![0.1, 0.3, 0.2], account), rng));
         }
         // As an expected return: ratios below 0, NaN, infinite, and both 0.
@@ -281,7 +280,7 @@ fn figured(out: &mut Record, rng: &mut Random) {
 /// Every metric, linkage and distance, cut anywhere.
 fn trees(out: &mut Record, rng: &mut Random) {
     for n in [1, 2, 3, 5] {
-        for metric in METRICS {
+        for metric in PLAIN {
             for linkage in METHODS {
                 for distance in DISTANCES {
                     let clusters = [None, Some(1 + rng.below(n))][rng.below(2)];
@@ -297,7 +296,7 @@ fn trees(out: &mut Record, rng: &mut Random) {
             let ties = mirrored(n, 1.0, || rng.pick(&[0.0, 0.25, 0.5]));
             let lean = square(n, |i, j| if i == j { 0.5 + rng.unit() } else { rng.gain() });
             for cov in [ties, lean, wild(rng, n)] {
-                let account = Hcaa { linkage, clusters: Some(1 + rng.below(n)), ..Hcaa::new(rng.pick(&METRICS), n, given(n, cov)) };
+                let account = Hcaa { linkage, clusters: Some(1 + rng.below(n)), ..Hcaa::new(rng.pick(&PLAIN), n, given(n, cov)) };
                 let expected = filled(n, || rng.seldom(9, 0.1));
                 out.hcaa_allocate(&expecting(expected, Hcaa { distance: rng.pick(&DISTANCES), ..account }));
             }
@@ -306,7 +305,7 @@ fn trees(out: &mut Record, rng: &mut Random) {
     // Every cut of one tree.
     let nine = given(9, covariance(rng, 9));
     for clusters in 1..10 {
-        out.hcaa_allocate(&Hcaa { clusters: Some(clusters), rooms: need::hcaa(9), ..Hcaa::new(rng.pick(&METRICS[..2]), 9, nine.clone()) });
+        out.hcaa_allocate(&Hcaa { clusters: Some(clusters), rooms: need::hcaa(9), ..Hcaa::new(rng.pick(&PLAIN[..2]), 9, nine.clone()) });
         out.hcaa_allocate(&Hcaa { clusters: Some(clusters), ..Hcaa::new("equal_weighting", 9, nine.clone()) });
     }
     for (n, metric) in [(16, "minimum_standard_deviation"), (17, "equal_weighting"), (32, "minimum_variance")] {
@@ -328,7 +327,7 @@ fn estimates(out: &mut Record, rng: &mut Random) {
         let monthly = (4..8).contains(&k);
         for rows in if monthly { &[3, 20, 21, 42, 63][..] } else { &[3, 4, 5, 9, 10, 15, 16] } {
             let (rows, n) = (*rows, 1 + rng.below(if monthly { 2 } else { 3 }));
-            let account = Hcaa::new(rng.pick(&METRICS), n, from_prices(rows, n, prices(rng, rows, n)));
+            let account = Hcaa::new(rng.pick(&PLAIN), n, from_prices(rows, n, prices(rng, rows, n)));
             let method = rng.pick(&["mean", "exponential"]);
             out.hcaa_allocate(&mixed(Hcaa { name: name.to_vec(), method: method.into(), ..account }, rng));
         }
@@ -346,7 +345,7 @@ fn estimates(out: &mut Record, rng: &mut Random) {
         }
     }
     // Prices and returns of odd doubles; the same column twice; constant prices.
-    for metric in METRICS {
+    for metric in PLAIN {
         out.hcaa_allocate(&mixed(Hcaa::new(metric, 3, from_prices(4, 3, filled(12, || rng.seldom(6, 2.5)))), rng));
         out.hcaa_allocate(&mixed(Hcaa::new(metric, 3, from_returns(4, 3, filled(12, || rng.seldom(5, 0.25)))), rng));
         out.hcaa_allocate(&mixed(Hcaa::new(metric, 2, from_returns(3, 2, filled(6, || rng.wild()))), rng));
@@ -360,29 +359,29 @@ fn estimates(out: &mut Record, rng: &mut Random) {
     }
 }
 
-type Bend = fn(&mut Down);
+pub type Bend = fn(&mut Down);
 
-const BENDS: [Bend; 32] = [
+pub const BENDS: [Bend; 32] = [
     |d| d.assets = 65,
     |d| d.assets = HUGE,
     |d| d.assets = 0,
     |d| d.assets = 2,
     |d| d.assets = 4,
     // 9 and 10.
-    |d| (d.rows, d.columns) = (4097, 0),
-    |d| (d.rows, d.columns) = (1, 65),
-    |d| (d.rows, d.columns) = (4096, 2),
-    |d| (d.rows, d.columns) = (HUGE, HUGE),
-    |d| d.cells.truncate(8),
-    |d| d.cells.push(1.0),
+    |d| (d.covariance.rows, d.covariance.columns) = (4097, 0),
+    |d| (d.covariance.rows, d.covariance.columns) = (1, 65),
+    |d| (d.covariance.rows, d.covariance.columns) = (4096, 2),
+    |d| (d.covariance.rows, d.covariance.columns) = (HUGE, HUGE),
+    |d| d.covariance.cells.truncate(8),
+    |d| d.covariance.cells.push(1.0),
     // 11.
     |d| d.room = 2,
     |d| d.room = 0,
     |d| d.room = 3,
     // 3.
-    |d| (d.rows, d.columns, d.cells) = (2, 3, vec![1.0; 6]),
-    |d| (d.rows, d.columns, d.cells) = (3, 2, vec![1.0; 6]),
-    |d| (d.rows, d.columns, d.cells) = (0, 0, vec![]),
+    |d| d.covariance = Lone::of(2, 3, vec![1.0; 6]),
+    |d| d.covariance = Lone::of(3, 2, vec![1.0; 6]),
+    |d| d.covariance = Lone::of(0, 0, vec![]),
     |d| d.expected.truncate(2),
     |d| d.expected = vec![0.1; 65],
     |d| d.expected_given = false,
@@ -398,8 +397,8 @@ const BENDS: [Bend; 32] = [
     |d| d.clusters = 0,
     |d| d.clusters = 4,
     |d| d.clusters = HUGE,
-    |d| d.cells.iter_mut().for_each(|x| *x = -1.0),
-    |d| d.cells.iter_mut().for_each(|x| *x = f64::INFINITY),
+    |d| d.covariance.cells.iter_mut().for_each(|x| *x = -1.0),
+    |d| d.covariance.cells.iter_mut().for_each(|x| *x = f64::INFINITY),
 ];
 
 fn shared_down(out: &mut Record, rng: &mut Random) {
@@ -447,7 +446,7 @@ fn shared_down(out: &mut Record, rng: &mut Random) {
             call.clusters = 1 + rng.below(n);
             call.expected = filled(n, || rng.gain());
             out.allocate_down_tree(&call);
-            call.cells = wild(rng, n);
+            call.covariance.cells = wild(rng, n);
             call.expected = filled(n, || rng.seldom(4, 0.1));
             out.allocate_down_tree(&call);
         }

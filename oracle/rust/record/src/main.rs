@@ -9,6 +9,7 @@ mod hcaa_cases;
 mod kinds;
 mod random;
 mod rules;
+mod tail_cases;
 
 fn main() -> std::io::Result<()> {
     let names: Vec<String> = std::env::args().skip(1).collect();

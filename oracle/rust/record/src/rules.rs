@@ -1,5 +1,5 @@
-//! The refusals that the source does not have, by document 01's sentences. "Always 9, 10, 11 first."
-use openquant::api::Refused;
+//! The refusals that the source does not have, by document 01's sentences and document 02's. "Always 9, 10, 11 first."
+use openquant::api::{is_confidence, Refused};
 
 /// 9: "a number of assets, rows, columns or cells, or a text, is over its limit"; "a matrix has at most 64 columns, 4,096 rows and 4,096 cells".
 fn over_limit(rows: usize, columns: usize) -> bool {
@@ -93,28 +93,85 @@ pub fn bisection(rows: usize, columns: usize, len: usize, given: &[usize], room:
     Ok(())
 }
 
-/// What a weight is shared down: merge rows, a covariance of `len` cells and, under Sharpe, expected returns, where there are any.
-pub struct Sharing<'a> {
-    pub sharpe: bool,
-    pub clusters: usize,
-    pub assets: usize,
-    pub expected: Option<usize>,
+/// A matrix's sizes, and how many cells were handed over.
+#[derive(Clone, Copy)]
+pub struct Sizes {
     pub rows: usize,
     pub columns: usize,
     pub len: usize,
-    pub ids: &'a [usize],
-    pub room: usize,
 }
 
-/// "Sharing down given merge rows (after its 3): n = 0 is 1, then 14", then as HCAA's: 4, 6. The 3 is the covariance's size, then the expected
-/// returns' length.
+/// 9 over both matrices, then 10 over both.
+fn both_sized(matrices: [Sizes; 2]) -> Result<(), u8> {
+    if matrices.iter().any(|m| over_limit(m.rows, m.columns)) {
+        return Err(9);
+    }
+    if matrices.iter().any(|m| m.len != m.rows * m.columns) {
+        return Err(10);
+    }
+    Ok(())
+}
+
+/// Document 02: "16, no return rows, .. 17, under these two metrics, confidence NaN or outside 0 to 1, right after 16".
+fn tail_risk(return_rows: usize, confidence: f64) -> Result<(), u8> {
+    if return_rows == 0 {
+        return Err(16);
+    }
+    if !is_confidence(confidence) {
+        return Err(17);
+    }
+    Ok(())
+}
+
+/// A tail-risk measure of a list of assets: 9 over the list too, 11 of the buffer for the portfolio's series, 3 of the covariance, then "return
+/// rows present with columns other than n", then 14, 16, 17.
+pub fn measure(returns: Sizes, covariance: Sizes, assets: &[usize], confidence: f64, series: usize) -> Result<(), u8> {
+    if assets.len() > 64 {
+        return Err(9);
+    }
+    both_sized([returns, covariance])?;
+    if series < need::series(returns.rows) {
+        return Err(11);
+    }
+    square(covariance.rows, covariance.columns)?;
+    if returns.rows > 0 && returns.columns != covariance.columns {
+        return Err(3);
+    }
+    if assets.iter().any(|&a| a >= covariance.columns) {
+        return Err(14);
+    }
+    tail_risk(returns.rows, confidence)
+}
+
+/// What a weight is shared down: merge rows, a covariance and, under Sharpe, expected returns, where there are any; under a tail-risk metric
+/// returns and a confidence.
+pub struct Sharing<'a> {
+    pub sharpe: bool,
+    pub tail: bool,
+    pub clusters: usize,
+    pub assets: usize,
+    pub expected: Option<usize>,
+    pub returns: Sizes,
+    pub confidence: f64,
+    pub covariance: Sizes,
+    pub ids: &'a [usize],
+    pub room: usize,
+    pub scratch: usize,
+}
+
+/// "Sharing down given merge rows (after its 3): n = 0 is 1, then 14", then as HCAA's: 4, 16, 17, 6. The 3 is the covariance's size, then the
+/// expected returns' length, then the columns of return rows, each where it is read.
 pub fn sharing(s: &Sharing) -> Result<(), Refused> {
     if s.assets > 64 {
         return Err(9.into());
     }
-    sized(s.rows, s.columns, s.len, s.room, || s.assets)?;
+    both_sized([s.covariance, s.returns])?;
+    if s.room < s.assets || s.scratch < need::SCRATCH {
+        return Err(11.into());
+    }
     let other = s.sharpe && s.expected.is_some_and(|len| len != s.assets);
-    if s.rows != s.assets || s.columns != s.assets || other {
+    let wide = s.tail && s.returns.rows > 0 && s.returns.columns != s.assets;
+    if s.covariance.rows != s.assets || s.covariance.columns != s.assets || other || wide {
         return Err(3.into());
     }
     if s.assets == 0 {
@@ -125,6 +182,9 @@ pub fn sharing(s: &Sharing) -> Result<(), Refused> {
     }
     if s.sharpe && s.expected.is_none() {
         return Err(4.into());
+    }
+    if s.tail {
+        tail_risk(s.returns.rows, s.confidence)?;
     }
     if s.clusters == 0 || s.clusters > s.assets {
         return Err(Refused { number: 6, asked: [s.clusters, s.assets] });
@@ -139,12 +199,6 @@ pub struct Handed {
     pub rows: usize,
     pub columns: usize,
     pub len: usize,
-}
-
-impl Handed {
-    pub fn any(matrices: &[Handed; 3]) -> bool {
-        matrices.iter().any(|m| m.given)
-    }
 }
 
 /// An account's 9 over all counts and given matrices, then 10 over all, then 11 over all its buffers.
@@ -163,15 +217,6 @@ pub fn account<const B: usize>(
     }
     if rooms.iter().zip(needs(assets)).any(|(&room, need)| room < need) {
         return Err(11);
-    }
-    Ok(())
-}
-
-/// 12: HCAA's order begins "no matrix at all 1; metric 2, then 12". The source knows the two names, so it gives the 1 and the 2.
-pub fn tail_risk(any_matrix: bool, metric: &[u8]) -> Result<(), u8> {
-    let tail = metric == b"expected_shortfall" || metric == b"conditional_drawdown_risk";
-    if tail && any_matrix {
-        return Err(12);
     }
     Ok(())
 }
@@ -207,8 +252,13 @@ pub mod need {
         2 * columns.saturating_sub(1)
     }
 
+    /// A portfolio's series: its rows and its start. There are no more rows than 9 lets pass.
+    pub fn series(rows: usize) -> usize {
+        rows + 1
+    }
+
     /// "Scratch has under 8,192 doubles."
-    const SCRATCH: usize = 8192;
+    pub const SCRATCH: usize = 8192;
 
     /// Rows, order, weights, correlations, distances, scratch.
     pub fn hrp(assets: usize) -> [usize; 6] {

@@ -18,6 +18,9 @@ const ASSETS: [usize; 4] = [8, 16, 32, 64];
 
 const RETURN_ROWS: usize = 60;
 
+/// The part of the days that count as bad. It is no half of 60 days or of 61, on which the Rust differs.
+const CONFIDENCE: f64 = 0.05;
+
 fn nanoseconds(times: usize, call: &mut impl FnMut()) -> f64 {
     let start = Instant::now();
     (0..times).for_each(|_| call());
@@ -141,9 +144,9 @@ fn ours_hrp(g: &Given, b: &mut Buffers) -> u8 {
     }
 }
 
-fn ours_hcaa(g: &Given, b: &mut Buffers) -> u8 {
+fn ours_hcaa(metric: &str, g: &Given, b: &mut Buffers) -> u8 {
     let (at, len) = (g.cells.as_ptr(), g.cells.len());
-    let (metric, distance, linkage) = (b"minimum_variance", b"correlation", b"ward");
+    let (distance, linkage) = (b"correlation", b"ward");
     // Every slice is a vector of its own; an absent matrix is not read.
     unsafe {
         rovignesc_hcaa(
@@ -170,6 +173,7 @@ fn ours_hcaa(g: &Given, b: &mut Buffers) -> u8 {
             metric.len(),
             null(),
             0,
+            CONFIDENCE,
             0,
             0,
             null(),
@@ -199,15 +203,16 @@ fn theirs_hrp(g: &Given, m: &DMatrix<f64>) -> Vec<f64> {
     api::hrp_allocate(&account).map_err(|_| "refused").unwrap().weights
 }
 
-fn theirs_hcaa(g: &Given, m: &DMatrix<f64>) -> Vec<f64> {
+fn theirs_hcaa(metric: &str, g: &Given, m: &DMatrix<f64>) -> Vec<f64> {
     let account = HcaaAccount {
         assets: g.assets,
         prices: None,
         returns: g.returns.then_some(m),
         covariance: (!g.returns).then_some(m),
         expected: None,
-        metric: "minimum_variance",
+        metric,
         method: "mean",
+        confidence: CONFIDENCE,
         clusters: None,
         resample_by: None,
         distance: Distance::Correlation,
@@ -216,13 +221,17 @@ fn theirs_hcaa(g: &Given, m: &DMatrix<f64>) -> Vec<f64> {
     api::hcaa_allocate(&account).map_err(|_| "refused").unwrap().weights
 }
 
-fn accounts(what: &str, given: &[Given], ours: fn(&Given, &mut Buffers) -> u8, theirs: fn(&Given, &DMatrix<f64>) -> Vec<f64>) {
+fn accounts(what: &str, given: &[Given], ours: impl Fn(&Given, &mut Buffers) -> u8, theirs: impl Fn(&Given, &DMatrix<f64>) -> Vec<f64>) {
     for g in given {
         let (m, mut b) = (g.matrix(), Buffers::new(g.assets));
         assert_eq!(ours(g, &mut b), 0);
         assert_eq!(b.weights, theirs(g, &m));
         beside(what, g.assets, 1, || keep(ours(g, &mut b)), || keep(theirs(g, &m)));
     }
+}
+
+fn hcaa_accounts(what: &str, metric: &str, given: &[Given]) {
+    accounts(what, given, |g, b| ours_hcaa(metric, g, b), |g, m| theirs_hcaa(metric, g, m));
 }
 
 /// The source's function itself: `api::covariance` runs it twice and compares.
@@ -290,8 +299,13 @@ fn main() {
     merges(&mut rng);
     accounts("hrp_covariance", &from_covariance, ours_hrp, theirs_hrp);
     accounts("hrp_returns", &from_returns, ours_hrp, theirs_hrp);
-    accounts("hcaa_covariance", &from_covariance, ours_hcaa, theirs_hcaa);
-    accounts("hcaa_returns", &from_returns, ours_hcaa, theirs_hcaa);
+    hcaa_accounts("hcaa_covariance", "minimum_variance", &from_covariance);
+    hcaa_accounts("hcaa_returns", "minimum_variance", &from_returns);
+    let [few, _, _, many] = from_returns;
+    for (what, metric) in [("hcaa_shortfall", "expected_shortfall"), ("hcaa_drawdown", "conditional_drawdown_risk")] {
+        hcaa_accounts(what, metric, std::slice::from_ref(&few));
+        hcaa_accounts(what, metric, std::slice::from_ref(&many));
+    }
     listing(&mut rng);
     roots(&mut rng);
 }
