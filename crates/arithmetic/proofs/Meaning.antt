@@ -14,10 +14,9 @@ use lib.Ieee.Bits.{ofBits-toBits, ofBits-fits}
 use lib.Ieee.Fits.{nan-fits, inf-fits}
 use lib.Ieee.Exact.{odd-sign}
 use lib.Ieee.Positive.{positive}
-use Rattle.arithmetic.specs.Near.{Near, Nearer}
-use Rattle.arithmetic.specs.Pattern.{worth, Positive, Radicand}
+use Rattle.arithmetic.specs.Inner.{worth, Positive, Radicand, Near}
 use Rattle.arithmetic.specs.Exact.{unitsOf, plain}
-use Rattle.arithmetic.specs.Root.{kept, root, NearerThan}
+use Rattle.arithmetic.specs.Root.{kept, root, NearerThan, Nearer}
 use Rattle.arithmetic.proofs.Units.{units-are, digits-of, plain-value}
 use Rattle.arithmetic.proofs.root.Laws.{lifted, paired-even, paired-odd, worth-subnormal, worth-normal}
 use Rattle.arithmetic.proofs.root.At.{kept-near, root-at}

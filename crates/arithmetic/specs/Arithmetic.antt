@@ -35,4 +35,5 @@ countOf n = ofInt binary64 (pos n)
 
 -- 1/m, rounded once: "the double nearest 1/m"
 unfoldable pub oneOver : ℕ → Float
-oneOver m = div binary64 unit (ofInt binary64 (pos m))
+unfolding countOf
+oneOver m = div binary64 unit (countOf m)

@@ -4,17 +4,16 @@ use Prim.Native.Nat.{ℕ, zero, suc, _+_, _-_, _*_, _/_, _^_, _<_}
 use mathlib.Core.Bool.{true, false, cond}
 use lib.Dec.{leb}
 use lib.Ieee.{Float, nan, inf, fin, size, odd}
-use Rattle.arithmetic.specs.Near.{Nearer}
 use Rattle.arithmetic.specs.Exact.{whole}
 
 -- s + 1 if its square is at most v, else s
-abbrev pub grow : ℕ → ℕ → ℕ
-grow v s = cond (leb ((s + 1) * (s + 1)) v) (s + 1) s
+abbrev pub isqrtStep : ℕ → ℕ → ℕ
+isqrtStep v s = cond (leb ((s + 1) * (s + 1)) v) (s + 1) s
 
 -- the largest number whose square is at most v, for a v below 4^d: twice the root of v / 4, or one more
 unfoldable pub isqrt : ℕ → ℕ → ℕ
 isqrt zero v = 0
-isqrt (suc d) v = grow v (2 * isqrt d (v / 4))
+isqrt (suc d) v = isqrtStep v (2 * isqrt d (v / 4))
 
 -- The root of a double of n units is √v units, with v = n * 2^1074. Its whole part has (size v + 1) / 2 binary digits, of which a double keeps 53 and drops k.
 abbrev pub dropped : ℕ → ℕ
@@ -35,6 +34,12 @@ root (fin false (suc m) e) =
     let v = whole (suc m) e * 2 ^ 1074 in
     let k = dropped v in
     odd 53 false (kept v k) k 1074
+
+-- Of two numbers r and b, r is the nearer to √v, or they are equal: the number halfway between them, (r + b) / 2, lies on b's side of √v.
+-- Said of the squares: ((r + b) / 2)^2 against v.
+pub record Nearer (v r b : ℕ) : Type 0 where
+  pub below : b < r → (r + b) * (r + b) < v * 4
+  pub above : r < b → v * 4 < (r + b) * (r + b)
 
 -- r units are nearer to √v units than the double y is, or are y itself. A y below zero is farther from √v than zero is.
 abbrev pub NearerThan : ℕ → ℕ → Float → Type 0

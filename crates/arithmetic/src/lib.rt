@@ -11,14 +11,20 @@ pub use root::sqrt;
 pub fn max(x: f64, y: f64) -> f64
     ensures { λ r. ⌜ r ≡ maxOf x y ⌝ }
 {
-    if x != x || x < y { y } else { x }
+    if x != x {
+        return settled(y);
+    }
+    if x < y { y } else { x }
 }
 
 // The smaller of two; with one NaN the other, and of equals the first.
 pub fn min(x: f64, y: f64) -> f64
     ensures { λ r. ⌜ r ≡ minOf x y ⌝ }
 {
-    if x != x || y < x { y } else { x }
+    if x != x {
+        return settled(y);
+    }
+    if y < x { y } else { x }
 }
 
 // A number beyond an end becomes that end; NaN and −0 stay.
@@ -28,7 +34,7 @@ pub fn clamp(x: f64, low: f64, high: f64) -> f64
     if x < low {
         return low;
     }
-    if high < x { high } else { x }
+    if high < x { high } else { settled(x) }
 }
 
 // |x|: the bits without the sign's.

@@ -3,8 +3,7 @@ ghost use mathlib.Core.Path.{_≡_};
 ghost use Prim.Native.Nat.{ℕ, _+_, _*_, _^_, _≤_, _<_};
 ghost use lib.Dec.{T};
 ghost use lib.Ieee.Positive.{positive};
-ghost use Rattle.arithmetic.specs.Near.{Near};
-ghost use Rattle.arithmetic.specs.Pattern.{worth, Positive, Radicand};
+ghost use Rattle.arithmetic.specs.Inner.{worth, Positive, Radicand, Near};
 ghost use Rattle.arithmetic.specs.Root.{root};
 
 // q * (q + 1) / 2^52, which has up to 106 bits before the division: q is cut into 26 and 27 bits.

@@ -7,7 +7,8 @@ use native.Mathlib.Nat.{le-antisymm}
 use native.Mathlib.Omega.{arith}
 use borrow.Author.Needs.{needs}
 use lib.ListN.{length, set}
-use Rattle.lent.specs.Grid.{tab, grid, part, over}
+use Rattle.lent.specs.Grid.{tab, grid, over}
+use Rattle.lent.specs.Inner.{part}
 use Rattle.lent.proofs.Laws.{cell-in, cell-room, done-cell, rows-le, length-tab, length-grid, tab-more, over-push, over-over, part-none, part-full, part-push}
 use Rattle.lent.proofs.Sums.{sum-start, sum-step, sum-end, on-start, on-step, on-end, sums-start, sums-step, sums-end, any-none, any-more, any-end, any-hit}
 

@@ -13,7 +13,8 @@ use lib.Seq.{getD-set-same, getD-set-other, ext-getD, getD-drop, drop-at, drop-d
 use lib.Ieee.{Float, nan}
 use lib.Dec.{eqb}
 use borrow.Author.Tests.{eqb-true, eqb-false}
-use Rattle.lent.specs.Grid.{cell, tab, grid, part, over}
+use Rattle.lent.specs.Grid.{cell, tab, grid, over}
+use Rattle.lent.specs.Inner.{part}
 
 -- ---- numbers
 

@@ -5,3 +5,4 @@ pub mod Counting
 pub mod Clearing
 pub mod Sizes
 pub mod Fill
+pub mod Copying

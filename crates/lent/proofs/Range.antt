@@ -32,6 +32,12 @@ pub range-keeps : {S : Type 0} (P : S → Type 0) (f : ℕ → S → S) (lo hi :
 unfolding range
 range-keeps P f lo hi s h turn = span-keeps P f lo (hi - lo) s h (λ i t a b p. turn i t a (omega arith) p)
 
+span-same : {S : Type 0} (f g : ℕ → S → S) (lo k : ℕ) (s : S) → ((i : ℕ) (t : S) → lo ≤ i → i < lo + k → f i t ≡ g i t) → span f lo k s ≡ span g lo k s
+unfolding span
+span-same f g lo zero s h = refl
+span-same f g lo (suc k) s h =
+    h (lo + k) (span f lo k s) (omega arith) (omega arith) ∙ ap (g (lo + k)) (span-same f g lo k s (λ i t a b. h i t a (omega arith)))
+
 -- what turn j brings about, and each turn keeps, holds at the end
 span-hits : {S : Type 0} (P : S → Type 0) (f : ℕ → S → S) (lo k : ℕ) (s : S) (j : ℕ) → lo ≤ j → j < lo + k
     → ((t : S) → P (f j t)) → ((i : ℕ) (t : S) → lo ≤ i → i < lo + k → P t → P (f i t)) → P (span f lo k s)
@@ -56,3 +62,8 @@ range-hits P f lo hi s j a b hit keep = span-hits P f lo (hi - lo) s j a (omega 
 -- the loop has run where its counter has reached the end
 pub range-end : {S : Type 0} (f : ℕ → S → S) (lo i hi : ℕ) (s t : S) → t ≡ range f lo i s → i ≤ hi → hi ≤ i → t ≡ range f lo hi s
 range-end f lo i hi s t e h g = e ∙ ap (λ (k : ℕ). range f lo k s) (le-antisymm h g)
+
+-- two loops whose turns are the same end in the same
+pub range-same : {S : Type 0} (f g : ℕ → S → S) (lo hi : ℕ) (s : S) → ((i : ℕ) (t : S) → lo ≤ i → i < hi → f i t ≡ g i t) → range f lo hi s ≡ range g lo hi s
+unfolding range
+range-same f g lo hi s h = span-same f g lo (hi - lo) s (λ i t a b. h i t a (omega arith))

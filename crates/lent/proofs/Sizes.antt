@@ -10,13 +10,14 @@ use borrow.Author.Tests.{ltb-true, ltb-false, lt-ltb, le-ltb, eq-eqb, ne-eqb, eq
 use lib.Dec.{ltb, eqb}
 use lib.ListN.{length, replicate}
 use Rattle.refusal.specs.Table.{Line, first}
+use Rattle.refusal.specs.Telling.{tells}
 use Rattle.refusal.specs.declared.Refusal.{Refusal}
 use Rattle.refusal.specs.declared.Refusal.the-variants.{DimensionMismatch, ShortBuffer}
 use Rattle.refusal.specs.declared.Outcome.{Outcome}
 use Rattle.refusal.specs.declared.Outcome.the-variants.{Done, Refused}
 use Rattle.refusal.proofs.Tables.{none, first-done, first-refused, parts-done}
 use Rattle.lent.specs.Grid.{over}
-use Rattle.lent.specs.Lent.{overLimit, otherLength, sizes, squares, laid, answerOf, toldOf}
+use Rattle.lent.specs.Lent.{overLimit, otherLength, sizes, squares, laid, answerOf, answerTells, toldOf}
 use Rattle.lent.specs.declared.Answer.{Answer}
 use Rattle.lent.proofs.Laws.{same-or-not, over-replicate, either}
 
@@ -161,3 +162,10 @@ pub told-as : (o : Outcome) (rows w : ℕ) → toldOf (answerOf o rows w) ≡ o
 unfolding toldOf answerOf
 told-as Done rows w = refl
 told-as (Refused r) rows w = refl
+
+-- ---- what an answer tells is what the outcome that it was made from does
+
+pub answer-tells : (o : Outcome) (rows w : ℕ) → answerTells (answerOf o rows w) ≡ tells o (rows, w)
+unfolding answerOf
+answer-tells Done rows w = refl
+answer-tells (Refused r) rows w = refl

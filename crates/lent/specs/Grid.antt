@@ -22,11 +22,6 @@ unfolding tab
 grid zero w f = []
 grid (suc n) w f = grid n w f ++ tab w (f n)
 
--- the first n rows, and the first j cells of row n: where two nested loops stand
-unfoldable pub part : {A : Type 0} → ℕ → ℕ → ℕ → (ℕ → ℕ → A) → List A
-unfolding tab grid
-part n j w f = grid n w f ++ tab j (f n)
-
 -- n times +0, and n times the number 0
 abbrev pub zeros : ℕ → List Float
 zeros n = replicate n pz

@@ -5,6 +5,7 @@ use mathlib.Core.List.{List, [], _∷_, _++_}
 use lib.Dec.{ltb, eqb}
 use lib.ListN.{length, replicate}
 use Rattle.refusal.specs.Table.{Line}
+use Rattle.refusal.specs.Telling.{Telling, accepts, refuses}
 use Rattle.refusal.specs.declared.Refusal.the-variants.{DimensionMismatch, OverLimit, SliceLength, ShortBuffer}
 use Rattle.refusal.specs.declared.Outcome.{Outcome}
 use Rattle.refusal.specs.declared.Outcome.the-variants.{Done, Refused}
@@ -69,6 +70,11 @@ laid z (Refused r) room cells = replicate room z
 unfoldable pub answerOf : Outcome → ℕ → ℕ → Answer
 answerOf Done rows w = answer.Matrix rows w
 answerOf (Refused r) rows w = answer.Refused r
+
+-- this paper's number and values: 0 and the rows and columns, or the refusal's
+abbrev pub answerTells : Answer → Telling (ℕ × ℕ)
+answerTells (answer.Matrix rows w) = accepts (rows, w)
+answerTells (answer.Refused r) = refuses r
 
 -- how a call that answers a matrix went
 unfoldable pub toldOf : Answer → Outcome

@@ -9,7 +9,7 @@ ghost use lib.Dec.{ltb};
 ghost use lib.ListN.{length, take, replicate};
 ghost use Rattle.arithmetic.specs.Constants.{pz};
 ghost use Rattle.refusal.specs.Table.{first};
-ghost use Rattle.lent.specs.Grid.{zeros, noughts};
+ghost use Rattle.lent.specs.Grid.{zeros, noughts, over};
 ghost use Rattle.lent.specs.Lent.{tooBig, misfits, sizes, squares, overLimit, otherLength, answerOf, toldOf};
 
 pub const MOST_ASSETS: usize = 64;
@@ -81,6 +81,20 @@ pub fn clear_bytes_from(out: &mut [u8], start: usize)
     while at < out.len() {
         out[at] = 0;
         at += 1;
+    }
+}
+
+// The front of `to` is `from`, cut at the end of `to`; the rest of `to` stays.
+pub fn copy(from: &[f64], to: &mut [f64])
+    ensures { λ _. ⌜ now (to .exit) ≡ over (take (length (now (to .entry))) (now (from .entry))) (now (to .entry)) ⌝ }
+{
+    let mut n = 0;
+    while n < from.len() {
+        if to.len() <= n {
+            return;
+        }
+        to[n] = from[n];
+        n += 1;
     }
 }
 

@@ -19,7 +19,6 @@ pub table-end : first [] ≡ Done
 unfolding first
 table-end = refl
 
--- the code goes from the last line to the first, by `refuse`: `simp (table, table-end) (cc)` proves a table
 pub table : (t : Bool) (r : Refusal) (l : List Line) → first ((t, r) ∷ l) ≡ orElse t r (first l)
 unfolding first orElse
 table true r l = refl
@@ -32,6 +31,13 @@ table-hit t r l e = rw e
 pub table-pass : (t : Bool) (r : Refusal) (l : List Line) → t ≡ false → first ((t, r) ∷ l) ≡ first l
 unfolding first
 table-pass t r l e = rw e
+
+-- a table that is said by `refuse` from the last line to the first: t is the test as the code has it, u as the table has it
+pub said-line : (t u : Bool) (x : Refusal) (lines : List Line) (rest o : Outcome) → t ≡ u → rest ≡ first lines → o ≡ orElse t x rest → o ≡ first ((u, x) ∷ lines)
+said-line t u x lines rest o e f g = simp (table) (cc)
+
+pub said-last : (t u : Bool) (x : Refusal) (o : Outcome) → t ≡ u → o ≡ orElse t x Done → o ≡ first ((u, x) ∷ [])
+said-last t u x o e g = simp (table, table-end) (cc)
 
 -- ---- what a call that no test refuses knows
 

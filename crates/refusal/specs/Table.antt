@@ -24,8 +24,3 @@ orElse false r rest = rest
 unfoldable pub andThen : Outcome → Outcome → Outcome
 andThen Done o = o
 andThen (Refused r) o = Refused r
-
--- whether a call went through
-unfoldable pub isDone : Outcome → Bool
-isDone Done = true
-isDone (Refused r) = false

@@ -1,27 +1,25 @@
 -- `arithmetic::max` meets its contract. Assumes nothing.
-use mathlib.Core.Path.{sym, _∙_}
-use mathlib.Core.Bool.{true≢false}
-use mathlib.Core.Logic.{⊎-elim}
+use mathlib.Core.Path.{_∙_}
+use borrow.Author.Needs.{needs}
 use Rattle.arithmetic.specs.Arithmetic.{maxOf}
 use Rattle.arithmetic.proofs.Facts.{nan-if}
 use Rattle.arithmetic.proofs.max.Statement.{statement}
 use Rattle.arithmetic.proofs.max.Tie as tie
 
+settled-requires : tie.Need-settled-requires
+settled-requires c κs = search needs
+
 returns : tie.Need-returns
 unfolding maxOf
-returns c =
-    ⊎-elim
-    (λ w. rw (nan-if _ _ (w .0 .taken)))
-    (λ w. rw (nan-if _ _ (w .0 .left), sym (w .1) ∙ c .if2 .taken))
-    (c .before .if1 .came)
+returns c = c .settled .ensures ∙ rw (nan-if _ _ (c .before .if1 .taken))
 
 returns-2 : tie.Need-returns-2
 unfolding maxOf
-returns-2 c =
-    ⊎-elim
-    (λ w. absurd (true≢false (sym (w .0 .taken) ∙ sym (w .1) ∙ c .if2 .left)))
-    (λ w. rw (nan-if _ _ (w .0 .left), sym (w .1) ∙ c .if2 .left))
-    (c .before .if1 .came)
+returns-2 c = rw (nan-if _ _ (c .before .if1 .left), c .if2 .taken)
+
+returns-3 : tie.Need-returns-3
+unfolding maxOf
+returns-3 c = rw (nan-if _ _ (c .before .if1 .left), c .if2 .left)
 
 pub max-spec : {M : Type 1} → statement M
-max-spec = tie.close (tie.spec returns returns-2)
+max-spec = tie.close (tie.spec settled-requires returns returns-2 returns-3)

@@ -10,7 +10,7 @@ use lib.Ieee.{Float, fin, up, down, size, odd}
 use lib.Ieee.Digits.{size-lt, size-le}
 use lib.Ieee.Fits.{down-pos}
 use lib.Ieee.Exact.{HasValue}
-use Rattle.arithmetic.specs.Near.{Near}
+use Rattle.arithmetic.specs.Inner.{Near}
 use Rattle.arithmetic.specs.Root.{isqrt, dropped, kept, root}
 use Rattle.arithmetic.proofs.Units.{units-are}
 use Rattle.arithmetic.proofs.root.Floor.{isqrt-floor, near-half, near-unique}

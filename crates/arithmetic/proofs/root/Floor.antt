@@ -6,22 +6,22 @@ use native.Mathlib.Nat.{le-antisymm, mul-le-mul-left, mul-le-mul-right, pow-succ
 use native.Mathlib.Decide.{decLe}
 use native.Mathlib.Omega.{arith}
 use lib.Dec.{T, leb, leb→le, nleb→lt}
-use Rattle.arithmetic.specs.Near.{Near}
-use Rattle.arithmetic.specs.Root.{isqrt, grow}
+use Rattle.arithmetic.specs.Inner.{Near}
+use Rattle.arithmetic.specs.Root.{isqrt, isqrtStep}
 
 -- s is √v, cut to a whole number
 pub record Floor (v s : ℕ) : Type 0 where
   pub low : s * s ≤ v
   pub high : v < (s + 1) * (s + 1)
 
-floor-grow : (v s : ℕ) → s * s ≤ v → v < (s + 2) * (s + 2) → Floor v (grow v s)
+floor-grow : (v s : ℕ) → s * s ≤ v → v < (s + 2) * (s + 2) → Floor v (isqrtStep v s)
 floor-grow v s l h = go (leb ((s + 1) * (s + 1)) v) (leb→le ((s + 1) * (s + 1)) v) (nleb→lt ((s + 1) * (s + 1)) v)
   where
     go : (b : Bool) → (T b → (s + 1) * (s + 1) ≤ v) → (T (not b) → v < (s + 1) * (s + 1)) → Floor v (cond b (s + 1) s)
     go true y n = let k = y tt in omega arith
     go false y n = let k = n tt in omega arith
 
-floor-four : (v r : ℕ) → Floor (v / 4) r → Floor v (grow v (2 * r))
+floor-four : (v r : ℕ) → Floor (v / 4) r → Floor v (isqrtStep v (2 * r))
 floor-four v r f = floor-grow v (2 * r) (omega arith) (omega arith)
 
 quarter : (v p n : ℕ) → n ≡ 4 * p → v < n → v / 4 < p

@@ -6,7 +6,8 @@ use native.Mathlib.Nat.{le-trans, lt-of-not-le, mul-assoc, mul-pos, mul-le-mul-l
 use native.Mathlib.Decide.{decLe}
 use native.Mathlib.Omega.{arith}
 use lib.Pow.{pow-add, pow-pos, pow-mono}
-use Rattle.arithmetic.specs.Near.{Near, Nearer}
+use Rattle.arithmetic.specs.Inner.{Near}
+use Rattle.arithmetic.specs.Root.{Nearer}
 
 -- p * 2^j is a multiple of u, or is below 2^52 * u
 abbrev Grid : ℕ → ℕ → Type 0

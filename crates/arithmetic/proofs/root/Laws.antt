@@ -8,8 +8,7 @@ use lib.Dec.{T, leb, ltb, leb→le, nleb→lt, ltb→lt, nltb→le, lit≤}
 use mir.Syntax.{w64}
 use mir.Val.{Fits, boolByte}
 use lib.Pow.{shl-lt, pow-add, pow-mono}
-use Rattle.arithmetic.specs.Near.{Near}
-use Rattle.arithmetic.specs.Pattern.{worthAt}
+use Rattle.arithmetic.specs.Inner.{worthAt, Near}
 
 -- a number of s bits times one of t bits has at most s + t bits
 pub mul-lt-pow : {a b : ℕ} (s t : ℕ) → a < 2 ^ s → b < 2 ^ t → a * b < 2 ^ (s + t)

@@ -12,8 +12,7 @@ use lib.Ieee.{Float, nan, inf, fin, binary64, odd, ofFields, ofBits, nanBits}
 use lib.Ieee.Bits.{is-false, cond-no}
 use lib.Ieee.Exact.{HasValue, odd-sign}
 use lib.Ieee.Positive.{positive, value-pos}
-use Rattle.arithmetic.specs.Near.{Near}
-use Rattle.arithmetic.specs.Pattern.{worthAt, worth, Positive}
+use Rattle.arithmetic.specs.Inner.{worthAt, worth, Positive, Near}
 use Rattle.arithmetic.proofs.Facts.{pattern-no-nan}
 
 -- ---- reading

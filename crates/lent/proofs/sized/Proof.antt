@@ -1,5 +1,5 @@
 use Rattle.lent.specs.Lent.{sizes}
-use Rattle.refusal.proofs.Tables.{table, table-end}
+use Rattle.refusal.proofs.Tables.{said-line, said-last}
 use borrow.Author.Needs.{needs}
 use Rattle.lent.proofs.sized.Statement.{statement}
 use Rattle.lent.proofs.sized.Tie as tie
@@ -28,7 +28,7 @@ refuse-requires-2 c κs = search needs
 -- src/lib.rt:131:1
 returns : tie.Need-returns
 unfolding sizes
-returns c = simp (table, table-end) (cc)
+returns c = said-line _ _ _ _ _ _ (c .before .over-limit .ensures) (said-last _ _ _ _ (c .before .before .before .has-other-length .ensures) (c .before .before .refuse .ensures)) (c .refuse2 .ensures)
 
 pub sized-spec : {M : Type 1} → statement M
 sized-spec =

@@ -1,7 +1,7 @@
-use mathlib.Core.Path.{sym, _∙_}
+use mathlib.Core.Path.{refl, sym, _∙_}
 use native.Mathlib.Omega.{arith}
 use native.Mathlib.Nat.{mul-le-mul}
-use Rattle.refusal.proofs.Tables.{table, table-end}
+use Rattle.refusal.proofs.Tables.{said-line, said-last}
 use Rattle.lent.proofs.Sizes.{squared-refused, squared-sized, sized-done}
 use borrow.Author.Needs.{needs}
 use Rattle.lent.proofs.squared.Statement.{statement}
@@ -44,7 +44,7 @@ refuse-requires-2 c κs = search needs
 returns-2 : tie.Need-returns-2
 returns-2 c =
     let e = squared-sized _ _ _ (c .before .before .before .before .before .args .room) (sym (c .before .before .before .before .sized .ensures) ∙ c .before .before .enum-told .given .1) in
-    rw e (simp (table, table-end) (cc))
+    rw e (said-line _ _ _ _ _ _ refl (said-last _ _ _ _ refl (c .before .refuse .ensures)) (c .refuse2 .ensures))
 
 pub squared-spec : {M : Type 1} → statement M
 squared-spec =

@@ -41,7 +41,7 @@ returns-2 c =
     let a = at .before .before .before .before .args in
     let n = length-lowered (a .name .now) in
     let e = getD-lowered (a .name .now) (at .loop .i) (omega arith) in
-    sym (at .loop .inv .1 ∙ same-no (lowered (a .name .now)) (a .word .now) (at .loop .i) (omega arith) (omega arith) (λ q. c .if2 .taken (cc)))
+    sym (at .loop .inv .1 ∙ same-no (lowered (a .name .now)) (a .word .now) (at .loop .i) (omega arith) (omega arith) (λ q. c .if2 .taken (c .before .before .lower .ensures ∙ sym e ∙ q)))
 
 add-i : tie.Need-add-i Inv-loop μ-loop
 add-i c = omega arith
@@ -55,7 +55,7 @@ loop-again c =
     let a = at .before .before .before .before .args in
     let n = length-lowered (a .name .now) in
     let e = getD-lowered (a .name .now) (at .loop .i) (omega arith) in
-    (omega arith, at .loop .inv .1 ∙ same-yes (lowered (a .name .now)) (a .word .now) (at .loop .i) (omega arith) (omega arith) (cc))
+    (omega arith, at .loop .inv .1 ∙ same-yes (lowered (a .name .now)) (a .word .now) (at .loop .i) (omega arith) (omega arith) (e ∙ sym (c .before .before .lower .ensures) ∙ c .if2 .left))
 
 returns-3 : tie.Need-returns-3 Inv-loop μ-loop
 returns-3 c =

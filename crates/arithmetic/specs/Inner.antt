@@ -1,4 +1,5 @@
--- The bit pattern of a double above zero and finite: how many units of 2^-1074 it is worth. Only private functions cite this: the square root's and the millionths'. Definitions only.
+-- What the private functions ask of one another and promise: may be skipped. Definitions only.
+-- The square root's, and the bit pattern of a double above zero and finite: how many units of 2^-1074 it is worth (the millionths' too).
 use mathlib.Core.Path.{_≡_}
 use Prim.Native.Nat.{ℕ, zero, suc, _+_, _*_, _/_, _%_, _^_, _≤_, _<_}
 
@@ -21,3 +22,8 @@ pub record Radicand (a m k : ℕ) : Type 0 where
   pub least : 2 ^ 52 ≤ m
   pub most : m + 2 ≤ 2 ^ 54
   pub small : k ≤ 1533
+
+-- q is √v to the nearest whole number: (q - 1/2)^2 < v < (q + 1/2)^2, multiplied out
+pub record Near (v q : ℕ) : Type 0 where
+  pub low : q * q < v + q
+  pub high : v ≤ q * q + q
