@@ -17,7 +17,7 @@ use Rattle.lent.specs.Grid.{cell}
 use Rattle.lent.proofs.Sums.{sum-start, sum-step}
 use Rattle.distances.specs.declared.Measure.{Measure}
 use Rattle.distances.specs.Distances.{distanceOf, distanceCell, offDiagonal, square, between, betweenCell}
-use Rattle.distances.specs.Held.{sumOf, Held, Picked}
+use Rattle.distances.specs.Inner.{sumOf, Held, Picked}
 
 -- the distances of a cell and of the one across the diagonal, where the two have the same bits
 pub distance-across : (of : Measure) (corr : List Float) (n i j : ℕ) → ((k : ℕ) → T (fits binary64 (getD corr k nan))) → toBits binary64 (cell corr n i j) ≡ toBits binary64 (cell corr n j i)

@@ -17,12 +17,12 @@ use Rattle.distances.specs.declared.Measure.{Measure}
 use Rattle.distances.specs.declared.Measure.the-variants.{Hrp, Hcaa}
 
 -- −1
-abbrev pub minus : Float
-minus = neg unit
+abbrev pub minusOne : Float
+minusOne = neg unit
 
 -- "Clamp c to −1..1."
 unfoldable pub clamped : Float → Float
-clamped c = clampOf c minus unit
+clamped c = clampOf c minusOne unit
 
 -- "HRP distance: root of (max(1 − c, 0) / 2). HCAA: root of max(2(1 − c), 0)." "A NaN correlation so has distance 0."
 unfoldable pub distanceOf : Measure → Float → Float

@@ -7,7 +7,7 @@ ghost use Prim.Native.Nat.{_+_, _*_, _<_, _≤_};
 ghost use lib.ListN.{length, set};
 ghost use Rattle.lent.specs.Grid.{cell, grid, over};
 ghost use Rattle.distances.specs.Distances.{distanceOf, distanceCell, distanceAnswer, distances, offDiagonal, betweenCell, betweens};
-ghost use Rattle.distances.specs.Held.{Held, Picked, sumOf};
+ghost use Rattle.distances.specs.Inner.{Held, Picked, sumOf};
 
 // Which allocator's distance.
 pub enum Measure {

@@ -25,7 +25,7 @@ use Rattle.lent.specs.declared.Answer.{Answer}
 use Rattle.lent.specs.declared.Answer.the-variants as answer
 use Rattle.lent.proofs.Laws.{length-grid}
 use Rattle.lent.proofs.Sizes.{Sized, over-cells, within-limit, same-length, sized-done, laid-refused}
-use Rattle.resample.specs.Resample.{keptRows, sampledCell, returnCell, zeroMet, samplingTable, samplingOutcome, sampledAnswer, sampledPrices, returnsTable, returnsOutcome, returnsAnswer, returnsOf}
+use Rattle.resample.specs.Resample.{keptRows, sampledCell, returnCell, breaksPriceRules, samplingTable, samplingOutcome, sampledAnswer, sampledPrices, returnsTable, returnsOutcome, returnsAnswer, returnsOf}
 use Rattle.resample.proofs.Laws.{kept-le}
 use Rattle.inputs.specs.Inputs.{matrixLines, sampled, noReturns, madeReturns, madeOutcome, madeAnswer, madeLaid}
 
@@ -72,13 +72,6 @@ sizes-pass len rows w z =
 no-or : (a b : Bool) → (a || b) ≡ false → (a ≡ false) × (b ≡ false)
 no-or true b e = absurd (let z : _≡_ {A = ℕ} 0 1 = cc in omega arith)
 no-or false b e = (refl, e)
-
--- two lines of one refusal are one
-joined : (a b c : Bool) (r s : Refusal) → first ((a, r) ∷ (b, s) ∷ (c, s) ∷ []) ≡ first ((a, r) ∷ (b || c, s) ∷ [])
-unfolding first
-joined true b c r s = refl
-joined false true c r s = refl
-joined false false c r s = refl
 
 -- ---- a matrix's answer tells its outcome
 
@@ -174,7 +167,6 @@ module _ (prices : List Float) (rows w s : ℕ) where
     returns-made room =
         rw (told .1)
         (first-done _ _ sample-sizes
-        ∙ joined (ltb room ((keptRows rows s - 1) * w)) (ltb (keptRows rows s) 2) (zeroMet (sampled prices rows w s) ((keptRows rows s - 1) * w)) ShortBuffer NoData
         ∙ sym (first-done (sizes (length prices) rows w) _ (both-done _ _ (sym sampling-parts ∙ told .0) .0)))
 
     pub answer-is : (room : ℕ) (r : Answer) → r ≡ returnsAnswer (sampled prices rows w s) k w room → r ≡ madeAnswer prices rows w s room
@@ -211,7 +203,7 @@ module _ (prices : List Float) (rows w s room : ℕ) where
     pub clean : noReturns prices rows w s ≡ false
 
   pub made-done : madeOutcome prices rows w s room ≡ Done → Made
-  unfolding madeOutcome noReturns
+  unfolding madeOutcome noReturns breaksPriceRules
   made-done e =
       let b = both-done (first (sizes (length prices) rows w)) _ (sym (first-append (sizes (length prices) rows w) _) ∙ e) in
       let z = sized-done (length prices) rows w (b .0) in

@@ -14,7 +14,7 @@ use Rattle.lent.specs.Lent.{most-assets, tooBig, misfits, sizes, laid, answerOf
 use Rattle.lent.specs.declared.Shape.{Shape}
 use Rattle.lent.specs.declared.Shape.the-variants.{Absent, Of}
 use Rattle.lent.specs.declared.Answer.{Answer}
-use Rattle.resample.specs.Resample.{keptRows, sampledCell, returnCell, zeroMet}
+use Rattle.resample.specs.Resample.{keptRows, sampledCell, returnCell, breaksPriceRules}
 
 -- ---- a matrix that may be absent
 
@@ -23,9 +23,9 @@ absent Absent = true
 absent (Of rows w) = false
 
 -- its rows, 0 where it is absent
-unfoldable pub rowsIn : Shape → ℕ
-rowsIn Absent = 0
-rowsIn (Of rows w) = rows
+unfoldable pub rowsOfShape : Shape → ℕ
+rowsOfShape Absent = 0
+rowsOfShape (Of rows w) = rows
 
 -- given, with columns other than n
 unfoldable pub otherColumns : Shape → ℕ → Bool
@@ -54,10 +54,10 @@ matrixLines n p pl r rl c cl =
 unfoldable pub sampled : List Float → ℕ → ℕ → ℕ → List Float
 sampled prices rows w s = grid (keptRows rows s) w (sampledCell prices rows w s)
 
--- "Returns: under 2 sampled rows is 1."; "the first zero price met as a denominator ends the scan with 1"
+-- the price rules, of the sampled prices
 unfoldable pub noReturns : List Float → ℕ → ℕ → ℕ → Bool
-unfolding sampled
-noReturns prices rows w s = ltb (keptRows rows s) 2 || zeroMet (sampled prices rows w s) ((keptRows rows s - 1) * w)
+unfolding sampled breaksPriceRules
+noReturns prices rows w s = breaksPriceRules (sampled prices rows w s) (keptRows rows s) w
 
 unfoldable pub madeReturns : List Float → ℕ → ℕ → ℕ → List Float
 unfolding sampled

@@ -7,7 +7,7 @@ use refusal::Refusal;
 ghost use mathlib.Core.Path.{_≡_};
 ghost use lib.ListN.{length};
 ghost use Rattle.refusal.specs.Table.{first};
-ghost use Rattle.inputs.specs.Inputs.{absent, rowsIn, otherColumns, otherSize, matrixLines, madeAnswer, madeLaid};
+ghost use Rattle.inputs.specs.Inputs.{absent, rowsOfShape, otherColumns, otherSize, matrixLines, madeAnswer, madeLaid};
 
 // Whether the matrix is not given.
 pub fn is_absent(shape: Shape) -> bool
@@ -24,7 +24,7 @@ pub fn is_absent(shape: Shape) -> bool
 
 // Its rows, 0 where it is absent.
 pub fn rows_in(shape: Shape) -> usize
-    ensures { λ r. ⌜ r ≡ rowsIn shape ⌝ }
+    ensures { λ r. ⌜ r ≡ rowsOfShape shape ⌝ }
 {
     match shape {
         Shape::Absent => 0,

@@ -8,21 +8,21 @@ use native.Mathlib.Nat.{le-div-iff-mul-le, div-le-self, mul-le-mul-right}
 use native.Mathlib.Omega.{arith}
 use borrow.Author.Tests.{le-leb, lt-leb, leb-false, ltb-false}
 use lib.Dec.{ltb, leb}
-use lib.ListN.{length, getD}
-use lib.Ieee.{Float, nan, eq}
-use Rattle.arithmetic.specs.Constants.{pz}
+use lib.ListN.{length, getD, take}
+use lib.Ieee.{Float, nan, binary64, sub, div, eq}
+use Rattle.arithmetic.specs.Constants.{pz, unit}
 use Rattle.refusal.specs.Table.{Line, first, andThen}
 use Rattle.refusal.specs.declared.Refusal.{Refusal}
 use Rattle.refusal.specs.declared.Refusal.the-variants.{NoData, ShortBuffer}
 use Rattle.refusal.specs.declared.Outcome.{Outcome}
 use Rattle.refusal.specs.declared.Outcome.the-variants.{Done, Refused}
 use Rattle.refusal.proofs.Tables.{none, first-append, parts-done, then-done, then-refused, table-hit, table-pass, table-end}
-use Rattle.lent.specs.Grid.{grid, zeros, over}
+use Rattle.lent.specs.Grid.{cell, grid, zeros, over}
 use Rattle.lent.specs.Lent.{sizes, answerOf}
 use Rattle.lent.proofs.Laws.{either}
 use Rattle.lent.proofs.Sums.{no-or, any-none, any-more, any-hit}
 use Rattle.lent.proofs.Sizes.{sized-done, laid-done, laid-refused}
-use Rattle.resample.specs.Resample.{isWeekly, isMonthly, stepOf, keepsAll, keptRows, keptRow, sampledCell, samplingTable, samplingOutcome, sampledAnswer, sampledPrices, returnCell, zeroMet, returnsTable, returnsOutcome, returnsAnswer, returnsOf}
+use Rattle.resample.specs.Resample.{isWeekly, isMonthly, stepOf, keepsAll, keptRows, keptRow, sampledCell, samplingTable, samplingOutcome, sampledAnswer, sampledPrices, returnCell, zeroMet, breaksPriceRules, returnsTable, returnsOutcome, returnsAnswer, returnsOf}
 
 -- ---- the step of a name
 
@@ -97,6 +97,11 @@ module _ (rows s : ℕ) where
       (λ e. let b = block-in r e h in omega (arith, row-block r e))
       (either (keepsAll rows s))
 
+-- what a row of the sample stores
+pub sampled-stored : (prices : List Float) (rows w s r c from : ℕ) (v p : Float) → v ≡ p → p ≡ cell prices w from c → from ≡ keptRow rows s r → v ≡ sampledCell prices rows w s r c
+unfolding sampledCell
+sampled-stored prices rows w s r c from v p e f g = e ∙ f ∙ ap (λ (k : ℕ). cell prices w k c) g
+
 -- ---- sampling: o is what the judge said
 
 module _ (len rows w s room : ℕ) where
@@ -147,6 +152,19 @@ module _ (prices : List Float) where
   unfolding zeroMet zeroAt
   zero-hit n k l e = any-hit zeroAt n k l e
 
+-- a price read, and whether it is zero
+pub zero-test : (prices : List Float) (w r c : ℕ) (x : Float) (b : Bool) → x ≡ cell prices w r c → eq x pz ≡ b → eq (getD prices (r * w + c) nan) pz ≡ b
+zero-test prices w r c x b e h = ap (λ (y : Float). eq y pz) (sym e) ∙ h
+
+-- what the scan stores
+pub return-stored : (prices : List Float) (w r c : ℕ) (v p q : Float) → v ≡ sub binary64 (div binary64 p q) unit → p ≡ cell prices w (r + 1) c → q ≡ cell prices w r c → v ≡ returnCell prices w r c
+unfolding returnCell
+return-stored prices w r c v p q e f g = e ∙ rw (f, g)
+
+-- a buffer that is cleared from its first entry on
+pub all-cleared : (d d′ : List Float) → d′ ≡ take 0 d ++ zeros (length d - 0) → d′ ≡ zeros (length d)
+all-cleared d d′ e = let z : length d - 0 ≡ length d = omega arith in e ∙ ap zeros z
+
 -- what the judge says: every line but the zero price's
 abbrev pub judged : ℕ → ℕ → ℕ → ℕ → Outcome
 judged len rows w room = first (sizes len rows w ++ ((ltb room ((rows - 1) * w), ShortBuffer) ∷ (ltb rows 2, NoData) ∷ []))
@@ -165,13 +183,25 @@ module _ (len rows w room : ℕ) where
       let a = none l (b .1) in
       record { cells = z .cells; two = ltb-false rows 2 (a .1 .0); fits = ltb-false room ((rows - 1) * w) (a .0) }
 
+-- two lines of one refusal are one
+joined : (a b c : Bool) (r s : Refusal) → first ((a, r) ∷ (b || c, s) ∷ []) ≡ first ((a, r) ∷ (b, s) ∷ (c, s) ∷ [])
+unfolding first
+joined true b c r s = refl
+joined false true c r s = refl
+joined false false c r s = refl
+
 module _ (prices : List Float) (rows w room : ℕ) where
   returns-judged : returnsOutcome prices rows w room ≡ andThen (judged (length prices) rows w room) (first ((zeroMet prices ((rows - 1) * w), NoData) ∷ []))
-  unfolding returnsOutcome returnsTable
+  unfolding returnsOutcome returnsTable breaksPriceRules
   returns-judged =
       let l : List Line = (ltb room ((rows - 1) * w), ShortBuffer) ∷ (ltb rows 2, NoData) ∷ [] in
       let m : List Line = (zeroMet prices ((rows - 1) * w), NoData) ∷ [] in
-      ap first (sym (append-assoc (sizes (length prices) rows w) l m)) ∙ first-append (sizes (length prices) rows w ++ l) m
+      let z = sizes (length prices) rows w in
+      first-append z _
+      ∙ ap (andThen (first z)) (joined (ltb room ((rows - 1) * w)) (ltb rows 2) (zeroMet prices ((rows - 1) * w)) ShortBuffer NoData)
+      ∙ sym (first-append z (l ++ m))
+      ∙ ap first (sym (append-assoc z l m))
+      ∙ first-append (z ++ l) m
 
   pub returns-refused : (o : Outcome) (k : Refusal) → o ≡ judged (length prices) rows w room → o ≡ Refused k → returnsOutcome prices rows w room ≡ Refused k
   returns-refused o k e h = returns-judged ∙ then-refused _ _ k (sym e ∙ h)

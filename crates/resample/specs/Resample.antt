@@ -64,12 +64,16 @@ returnCell prices w r c = sub binary64 (div binary64 (cell prices w (r + 1) c) (
 unfoldable pub zeroMet : List Float → ℕ → Bool
 zeroMet prices n = anyTo n (λ k. eq (getD prices k nan) pz)
 
--- "Returns: under 2 sampled rows is 1."
-unfoldable pub returnsTable : List Float → ℕ → ℕ → ℕ → List Line
+-- "Returns: under 2 sampled rows is 1.", or a zero price is met: the price rules
+unfoldable pub breaksPriceRules : List Float → ℕ → ℕ → Bool
 unfolding zeroMet
+breaksPriceRules prices rows w = ltb rows 2 || zeroMet prices ((rows - 1) * w)
+
+-- "Always 9, 10, 11 first."
+unfoldable pub returnsTable : List Float → ℕ → ℕ → ℕ → List Line
+unfolding breaksPriceRules
 returnsTable prices rows w room =
-    sizes (length prices) rows w
-    ++ ((ltb room ((rows - 1) * w), ShortBuffer) ∷ (ltb rows 2, NoData) ∷ (zeroMet prices ((rows - 1) * w), NoData) ∷ [])
+    sizes (length prices) rows w ++ ((ltb room ((rows - 1) * w), ShortBuffer) ∷ (breaksPriceRules prices rows w, NoData) ∷ [])
 
 unfoldable pub returnsOutcome : List Float → ℕ → ℕ → ℕ → Outcome
 returnsOutcome prices rows w room = first (returnsTable prices rows w room)

@@ -211,8 +211,9 @@ pub fn returns_from_prices(prices: &[f64], rows: usize, columns: usize, out: &mu
     let Outcome::Done = said else {
         return lent::answered(said, last, columns);
     };
+    // What was written before the zero goes too.
     if scan(prices, last, columns, out) {
-        lent::clear(out);
+        lent::clear_from(out, 0);
         return lent::answered(Outcome::Refused(Refusal::NoData), last, columns);
     }
     lent::answered(said, last, columns)

@@ -22,7 +22,7 @@ use Rattle.lent.specs.Lent.{sizes, squares}
 use Rattle.lent.proofs.Sizes.{sized-done, squared-done}
 use Rattle.stats.specs.Covariance.{meanOf, spread, covarianceOf, covarianceCell, covarianceTable, covarianceOutcome, shrinkOutcome, anyLow, correlationTable, correlationOutcome}
 use Rattle.stats.specs.Expected.{f501, weightAt, expectedOutcome}
-use Rattle.stats.specs.Kept.{Whole, Kept}
+use Rattle.stats.specs.Inner.{Whole, Kept}
 
 -- ---- entries worked out once and kept
 

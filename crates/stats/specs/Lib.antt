@@ -1,3 +1,3 @@
 pub mod Covariance
 pub mod Expected
-pub mod Kept
+pub mod Inner

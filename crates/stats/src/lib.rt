@@ -10,7 +10,7 @@ ghost use Rattle.arithmetic.specs.Root.{root};
 ghost use Rattle.lent.specs.Grid.{cell, tab, grid, over};
 ghost use Rattle.stats.specs.Covariance.{meanOf, spread, covarianceCell, covarianceOutcome, covarianceAnswer, covariances, shrunkCell, shrinkAnswer, shrunk, correlationCell, anyLow, correlationOutcome, correlationAnswer, correlations};
 ghost use Rattle.stats.specs.Expected.{meanReturn, exponentialReturn, expectedOutcome, expectedAnswer, meanReturns, exponentialReturns};
-ghost use Rattle.stats.specs.Kept.{Whole, Kept};
+ghost use Rattle.stats.specs.Inner.{Whole, Kept};
 
 // Cell (r, c) of a matrix of w columns.
 fn at(xs: &[f64], w: usize, r: usize, c: usize) -> f64

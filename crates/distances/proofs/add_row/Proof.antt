@@ -2,7 +2,7 @@
 use Prim.Native.Nat.{_+_, _-_, _≤_}
 use native.Mathlib.Omega.{arith}
 use Rattle.lent.proofs.Fill.{filling}
-use Rattle.distances.specs.Held.{Held, sumOf}
+use Rattle.distances.specs.Inner.{Held, sumOf}
 use Rattle.distances.proofs.Laws.{held-none, held-step, held-rest, held-end, sums-term}
 use Rattle.distances.proofs.add_row.Statement.{statement}
 use Rattle.distances.proofs.add_row.Tie as tie

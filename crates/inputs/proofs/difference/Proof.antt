@@ -20,10 +20,10 @@ clear-requires : tie.Need-clear-requires
 clear-requires c κs = search needs
 
 same-length : tie.Need-same-length
-same-length c = search needs
+same-length c = c .before .before .before .before .before .before .before .before .resample-prices .kept .1 .1 .1 .1 .0
 
 same-length-2 : tie.Need-same-length-2
-same-length-2 c = search needs
+same-length-2 c = c .before .before .clear .kept .0
 
 returns : tie.Need-returns
 returns c = let e = rw (c .before .before .before .before .before .before .before .before .before .before .before .before .before .pre) at (c .before .before .before .before .before .before .before .before .resample-prices .ensures .0) in (refused-answer _ _ _ _ _ _ _ e (c .before .before .before .before .enum-told .given .1), refused-laid _ _ _ _ _ _ _ e (c .before .before .before .before .enum-told .given .1) _ (c .before .before .clear .ensures))
@@ -41,10 +41,10 @@ returns-from-prices-requires : tie.Need-returns-from-prices-requires
 returns-from-prices-requires c κs = search needs
 
 same-length-3 : tie.Need-same-length-3
-same-length-3 c = search needs
+same-length-3 c = c .before .before .before .before .before .before .before .before .before .before .resample-prices .kept .1 .1 .1 .1 .0
 
 same-length-4 : tie.Need-same-length-4
-same-length-4 c = search needs
+same-length-4 c = c .before .before .returns-from-prices .kept .1 .1 .1 .0
 
 returns-2 : tie.Need-returns-2
 returns-2 c = let e = rw (c .before .before .before .before .before .before .before .before .before .before .before .before .before .before .before .pre) at (c .before .before .before .before .before .before .before .before .before .before .resample-prices .ensures .0) in let f = accepted-front _ _ _ _ _ _ _ e (c .before .before .before .before .before .before .answer .given .1) _ (rw (c .before .before .before .before .before .before .before .before .before .before .before .before .before .before .before .pre) at (c .before .before .before .before .before .before .before .before .before .before .resample-prices .ensures .1)) in (answer-is _ _ _ _ _ _ _ e (c .before .before .before .before .before .before .answer .given .1) _ _ (rw f at (c .before .before .returns-from-prices .ensures .0)), laid-is _ _ _ _ _ _ _ e (c .before .before .before .before .before .before .answer .given .1) _ _ (rw f at (c .before .before .returns-from-prices .ensures .1)))

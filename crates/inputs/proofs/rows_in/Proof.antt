@@ -1,5 +1,5 @@
 -- `inputs::rows_in` meets its contract. Assumes nothing.
-use Rattle.inputs.specs.Inputs.{rowsIn}
+use Rattle.inputs.specs.Inputs.{rowsOfShape}
 use borrow.Author.Needs.{needs}
 use Rattle.inputs.proofs.rows_in.Statement.{statement}
 use Rattle.inputs.proofs.rows_in.Tie as tie
@@ -11,11 +11,11 @@ enum-known-shape : tie.Need-enum-known-shape
 enum-known-shape c = search needs
 
 returns : tie.Need-returns
-unfolding rowsIn
+unfolding rowsOfShape
 returns c = rw (c .enum-told .given .1)
 
 returns-2 : tie.Need-returns-2
-unfolding rowsIn
+unfolding rowsOfShape
 returns-2 c = rw (c .before .shape .given .1)
 
 pub rows-in-spec : {M : Type 1} → statement M

@@ -1,10 +1,11 @@
 -- `resample::judge_returns` meets its contract. Assumes nothing.
-use Prim.Native.Nat.{_≤_}
-use mathlib.Core.Path.{sym, _∙_}
+use Prim.Native.Nat.{ℕ, _*_, _-_, _≤_}
+use mathlib.Core.Path.{_≡_, refl, sym, ap, _∙_}
 use native.Mathlib.Omega.{arith}
 use native.Mathlib.Nat.{mul-le-mul}
 use borrow.Author.Needs.{needs}
-use Rattle.refusal.proofs.Tables.{table, table-end, first-done, first-refused}
+use lib.Dec.{ltb}
+use Rattle.refusal.proofs.Tables.{said-line, said-last, first-done, first-refused}
 use Rattle.lent.proofs.Sizes.{sized-done}
 use Rattle.resample.proofs.judge_returns.Statement.{statement}
 use Rattle.resample.proofs.judge_returns.Tie as tie
@@ -38,7 +39,12 @@ refuse-requires-2 c κs = search needs
 
 returns-2 : tie.Need-returns-2
 returns-2 c =
-    rw (first-done _ _ (sym (c .before .before .before .before .before .sized .ensures) ∙ c .before .before .before .enum-told .given .1)) (simp (table, table-end) (cc))
+    let s = c .before .before .before .before .before in
+    let a = s .before .args in
+    let m : ltb (a .room) (c .before .before .return-rows .result * a .columns) ≡ ltb (a .room) ((a .rows - 1) * a .columns) =
+    ap (λ (k : ℕ). ltb (a .room) (k * a .columns)) (c .before .before .return-rows .ensures) in
+    rw (first-done _ _ (sym (s .sized .ensures) ∙ c .before .before .before .enum-told .given .1))
+    (said-line _ _ _ _ _ _ m (said-last _ _ _ _ refl (c .before .refuse .ensures)) (c .refuse2 .ensures))
 
 pub judge-returns-spec : {M : Type 1} → statement M
 judge-returns-spec =

@@ -1,12 +1,13 @@
 -- `resample::judge_sampling` meets its contract. Assumes nothing.
-use Prim.Native.Nat.{_≤_}
-use mathlib.Core.Path.{sym, _∙_}
+use Prim.Native.Nat.{ℕ, _*_, _≤_}
+use mathlib.Core.Path.{_≡_, sym, ap, _∙_}
 use native.Mathlib.Omega.{arith}
 use native.Mathlib.Nat.{mul-le-mul}
 use borrow.Author.Needs.{needs}
-use Rattle.refusal.proofs.Tables.{table, table-end, first-done, first-refused}
+use lib.Dec.{ltb}
+use Rattle.refusal.proofs.Tables.{said-last, first-done, first-refused}
 use Rattle.lent.proofs.Sizes.{sized-done}
-use Rattle.resample.specs.Resample.{samplingTable}
+use Rattle.resample.specs.Resample.{keptRows, samplingTable}
 use Rattle.resample.proofs.Laws.{kept-le}
 use Rattle.resample.proofs.judge_sampling.Statement.{statement}
 use Rattle.resample.proofs.judge_sampling.Tie as tie
@@ -40,7 +41,11 @@ refuse-requires c κs = search needs
 returns-2 : tie.Need-returns-2
 unfolding samplingTable
 returns-2 c =
-    rw (first-done _ _ (sym (c .before .before .before .before .sized .ensures) ∙ c .before .before .enum-told .given .1)) (simp (table, table-end) (cc))
+    let s = c .before .before .before .before in
+    let a = s .before .args in
+    let m : ltb (a .room) (c .before .kept-rows .result * a .columns) ≡ ltb (a .room) (keptRows (a .rows) (a .step) * a .columns) =
+    ap (λ (k : ℕ). ltb (a .room) (k * a .columns)) (c .before .kept-rows .ensures) in
+    rw (first-done _ _ (sym (s .sized .ensures) ∙ c .before .before .enum-told .given .1)) (said-last _ _ _ _ m (c .refuse .ensures))
 
 pub judge-sampling-spec : {M : Type 1} → statement M
 judge-sampling-spec =

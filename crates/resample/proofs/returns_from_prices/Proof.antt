@@ -1,9 +1,10 @@
 -- `resample::returns_from_prices` meets its contract. Assumes nothing.
 use Prim.Native.Nat.{_+_}
-use mathlib.Core.Path.{_≡_, sym, _∙_}
+use mathlib.Core.Path.{_≡_, sym, ap, _∙_}
 use native.Mathlib.Omega.{arith}
 use borrow.Author.Needs.{needs}
-use Rattle.resample.proofs.Laws.{accepted, returns-refused, returns-zero, returns-done, returned-answer, returned-refused, returned-done}
+use Rattle.lent.specs.Grid.{zeros}
+use Rattle.resample.proofs.Laws.{all-cleared, accepted, returns-refused, returns-zero, returns-done, returned-answer, returned-refused, returned-done}
 use Rattle.resample.proofs.returns_from_prices.Statement.{statement}
 use Rattle.resample.proofs.returns_from_prices.Tie as tie
 
@@ -26,7 +27,7 @@ answered-requires : tie.Need-answered-requires
 answered-requires c κs = search needs
 
 same-length : tie.Need-same-length
-same-length c = search needs
+same-length c = c .before .before .before .before .before .clear .kept .0
 
 returns : tie.Need-returns
 returns c =
@@ -44,14 +45,14 @@ scan-requires c κs =
     let i : rows .return-rows .result + 1 ≡ rows .before .before .before .before .args .rows = omega arith in
     (rw i (s .cells), rw last (omega arith))
 
-clear-requires-2 : tie.Need-clear-requires-2
-clear-requires-2 c κs = search needs
+clear-from-requires : tie.Need-clear-from-requires
+clear-from-requires c κs = search needs
 
 answered-requires-2 : tie.Need-answered-requires-2
 answered-requires-2 c κs = search needs
 
 same-length-2 : tie.Need-same-length-2
-same-length-2 c = search needs
+same-length-2 c = c .before .before .before .clear-from .kept .0 ∙ c .before .before .before .before .before .before .before .before .scan .kept .1 .1 .1 .0 ∙ c .before .before .before .before .before .before .before .before .before .before .before .before .before .before .clear .kept .0
 
 returns-2 : tie.Need-returns-2
 returns-2 c =
@@ -61,13 +62,13 @@ returns-2 c =
     let rows = told .before .before .before .before .before .before in
     let last = rows .return-rows .ensures in
     let o = returns-zero _ _ _ _ _ _ _ (rows .before .judge-returns .ensures) (told .enum-told .given .1) last (scanned .scan .ensures .0) (tested .if1 .taken) in
-    (c .answered2 .ensures ∙ returned-answer _ _ _ _ _ _ (sym o) last, returned-refused _ _ _ _ _ _ o (cc))
+    (c .answered2 .ensures ∙ returned-answer _ _ _ _ _ _ (sym o) last, returned-refused _ _ _ _ _ _ o (all-cleared (scanned .scan .last .1 .1 .1 .0) _ (c .before .before .before .clear-from .ensures) ∙ ap zeros (scanned .scan .kept .1 .1 .1 .0 ∙ told .before .before .before .before .clear .kept .0)))
 
 answered-requires-3 : tie.Need-answered-requires-3
 answered-requires-3 c κs = search needs
 
 same-length-3 : tie.Need-same-length-3
-same-length-3 c = search needs
+same-length-3 c = c .before .before .before .before .scan .kept .1 .1 .1 .0 ∙ c .before .before .before .before .before .before .before .before .before .before .clear .kept .0
 
 returns-3 : tie.Need-returns-3
 returns-3 c =
@@ -93,7 +94,7 @@ returns-from-prices-spec =
     same-length
     returns
     scan-requires
-    clear-requires-2
+    clear-from-requires
     answered-requires-2
     same-length-2
     returns-2

@@ -5,9 +5,10 @@ use native.Mathlib.Omega.{arith}
 use lib.ListN.{length}
 use Rattle.lent.proofs.Laws.{cell-in}
 use Rattle.lent.proofs.Fill.{cells-step, filling}
-use Rattle.lent.specs.Grid.{part, over}
+use Rattle.lent.specs.Grid.{over}
+use Rattle.lent.specs.Inner.{part}
 use Rattle.resample.specs.Resample.{keptRows, sampledCell}
-use Rattle.resample.proofs.Laws.{kept-lt}
+use Rattle.resample.proofs.Laws.{kept-lt, sampled-stored}
 use Rattle.resample.proofs.sample_row.Statement.{statement}
 use Rattle.resample.proofs.sample_row.Tie as tie
 
@@ -43,12 +44,11 @@ loop-less : tie.Need-loop-less Inv-loop μ-loop
 loop-less c = search filling
 
 loop-again : tie.Need-loop-again Inv-loop μ-loop
-unfolding sampledCell
 loop-again c =
     let put = c .before .before in
     let at = put .before .before .before .before .before in
     let p = at .before .before .before .before .pre in
-    (search filling, search filling, search filling, cells-step _ _ _ _ _ _ _ _ _ (put .put .ensures) (at .loop .inv .3) (cc) (p .1 .1 .0) (omega arith) (p .1 .1 .1 .0))
+    (search filling, search filling, search filling, cells-step _ _ _ _ _ _ _ _ _ (put .put .ensures) (at .loop .inv .3) (sampled-stored _ _ _ _ _ _ _ _ _ (put .before .settled .ensures) (put .before .before .before .at .ensures) (at .before .kept-row .ensures)) (p .1 .1 .0) (omega arith) (p .1 .1 .1 .0))
 
 same-length : tie.Need-same-length Inv-loop μ-loop
 same-length c = search filling

@@ -1,6 +1,8 @@
 -- `stats::correlation_cell` meets its contract. Assumes nothing.
+use mathlib.Core.Path.{ap₂}
 use native.Mathlib.Omega.{arith}
 use borrow.Author.Needs.{needs}
+use lib.Ieee.{Float, binary64, mul, div}
 use Rattle.lent.proofs.Fill.{filling}
 use Rattle.stats.specs.Covariance.{correlationCell}
 use Rattle.stats.proofs.correlation_cell.Statement.{statement}
@@ -27,7 +29,7 @@ returns c =
     let s = c .before .before .before .before in
     let p = s .pre .1 .0 .entry (s .args .i) (omega arith) in
     let q = s .pre .1 .0 .entry (s .args .j) (omega arith) in
-    cc
+    ap₂ (λ (x y : Float). div binary64 x y) (c .before .before .at .ensures) (ap₂ (λ (x y : Float). mul binary64 x y) p q)
 
 pub correlation-cell-spec : {M : Type 1} → statement M
 correlation-cell-spec =

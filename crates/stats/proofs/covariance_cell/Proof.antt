@@ -1,8 +1,10 @@
 -- `stats::covariance_cell` meets its contract. Assumes nothing.
-use mathlib.Core.Path.{_∙_}
+use mathlib.Core.Path.{sym, ap₂, _∙_}
 use native.Mathlib.Omega.{arith}
 use borrow.Author.Needs.{needs}
+use lib.Ieee.{Float}
 use Rattle.lent.proofs.Fill.{filling}
+use Rattle.stats.specs.Covariance.{spread}
 use Rattle.stats.proofs.Laws.{cell-across, cell-up}
 use Rattle.stats.proofs.covariance_cell.Statement.{statement}
 use Rattle.stats.proofs.covariance_cell.Tie as tie
@@ -38,7 +40,7 @@ returns-2 c =
     let p = s .pre .1 .1 .0 .entry (a .i) (omega arith) in
     let q = s .pre .1 .1 .0 .entry (a .j) (omega arith) in
     let u = cell-up (a .xs .now) (a .rows) (a .w) (a .i) (a .j) (omega arith) in
-    cc
+    c .spread-of .ensures ∙ ap₂ (λ (x y : Float). spread (a .xs .now) (a .rows) (a .w) x y (a .i) (a .j)) p q ∙ sym u
 
 pub covariance-cell-spec : {M : Type 1} → statement M
 covariance-cell-spec =

@@ -1,6 +1,11 @@
 -- `stats::judge_correlation` meets its contract. Assumes nothing.
-use mathlib.Core.Path.{sym, _∙_}
+use mathlib.Core.Path.{sym, ap, _∙_}
+use mathlib.Core.Bool.{Bool}
 use borrow.Author.Needs.{needs}
+use lib.Dec.{eqb}
+use Rattle.refusal.specs.Table.{orElse}
+use Rattle.refusal.specs.declared.Refusal.the-variants.{NoData, DimensionMismatch}
+use Rattle.refusal.specs.declared.Outcome.the-variants.{Done}
 use Rattle.lent.proofs.Sizes.{squared-done}
 use Rattle.stats.proofs.Laws.{correlation-refused, correlation-squared}
 use Rattle.stats.proofs.judge_correlation.Statement.{statement}
@@ -34,7 +39,7 @@ returns-2 c =
     let t = c .before .before .before in
     let a = t .before .before .before .before .args in
     let e = correlation-squared (a .cov .now) (a .rows) (a .w) (a .room) (sym (t .before .before .squared .ensures) ∙ t .enum-told .given .1) in
-    cc
+    c .refuse2 .ensures ∙ ap (orElse (eqb (a .w) 0) DimensionMismatch) (c .before .refuse .ensures ∙ ap (λ (b : Bool). orElse b NoData Done) (c .before .before .any-low .ensures)) ∙ sym e
 
 pub judge-correlation-spec : {M : Type 1} → statement M
 judge-correlation-spec =

@@ -1,8 +1,12 @@
 -- `stats::judge_covariance` meets its contract. Assumes nothing.
-use mathlib.Core.Path.{sym, _∙_}
+use Prim.Native.Nat.{_*_}
+use mathlib.Core.Path.{sym, ap, _∙_}
 use native.Mathlib.Omega.{arith}
 use native.Mathlib.Nat.{mul-le-mul}
 use borrow.Author.Needs.{needs}
+use lib.Dec.{ltb}
+use Rattle.refusal.specs.Table.{orElse}
+use Rattle.refusal.specs.declared.Refusal.the-variants.{ShortBuffer}
 use Rattle.lent.proofs.Sizes.{sized-done}
 use Rattle.stats.proofs.Laws.{covariance-refused, covariance-sized}
 use Rattle.stats.proofs.judge_covariance.Statement.{statement}
@@ -38,7 +42,7 @@ returns-2 c =
     let t = c .before .before in
     let a = t .before .before .before .before .args in
     let e = covariance-sized (a .xs .now) (a .rows) (a .w) (a .room) (sym (t .before .before .sized .ensures) ∙ t .enum-told .given .1) in
-    cc
+    c .refuse2 .ensures ∙ ap (orElse (ltb (a .room) (a .w * a .w)) ShortBuffer) (c .before .refuse .ensures) ∙ sym e
 
 pub judge-covariance-spec : {M : Type 1} → statement M
 judge-covariance-spec =

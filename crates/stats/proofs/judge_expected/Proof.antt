@@ -26,7 +26,7 @@ returns-2 : tie.Need-returns-2
 returns-2 c =
     let a = c .before .before .before .before .before .args in
     let e = expected-sized (a .xs .now) (a .rows) (a .w) (a .room) (sym (c .before .before .before .sized .ensures) ∙ c .before .enum-told .given .1) in
-    cc
+    c .refuse .ensures ∙ sym e
 
 pub judge-expected-spec : {M : Type 1} → statement M
 judge-expected-spec =

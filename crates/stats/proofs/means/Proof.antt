@@ -4,7 +4,7 @@ use mathlib.Core.Path.{_≡_}
 use lib.ListN.{length}
 use Rattle.lent.proofs.Fill.{filling}
 use Rattle.stats.specs.Covariance.{meanOf}
-use Rattle.stats.specs.Kept.{Kept}
+use Rattle.stats.specs.Inner.{Kept}
 use Rattle.stats.proofs.Laws.{kept-none, kept-step, kept-end}
 use Rattle.stats.proofs.means.Statement.{statement}
 use Rattle.stats.proofs.means.Tie as tie

@@ -5,7 +5,7 @@ use lib.ListN.{length}
 use Rattle.arithmetic.specs.Root.{root}
 use Rattle.lent.specs.Grid.{cell}
 use Rattle.lent.proofs.Fill.{filling}
-use Rattle.stats.specs.Kept.{Kept}
+use Rattle.stats.specs.Inner.{Kept}
 use Rattle.stats.proofs.Laws.{kept-none, kept-step, kept-end}
 use Rattle.stats.proofs.roots.Statement.{statement}
 use Rattle.stats.proofs.roots.Tie as tie

@@ -2,7 +2,8 @@
 use Prim.Native.Nat.{_*_, _-_, _≤_}
 use mathlib.Core.Path.{_≡_}
 use lib.ListN.{length}
-use Rattle.lent.specs.Grid.{part, over}
+use Rattle.lent.specs.Grid.{over}
+use Rattle.lent.specs.Inner.{part}
 use Rattle.lent.proofs.Fill.{filling}
 use Rattle.stats.specs.Covariance.{shrunkCell}
 use Rattle.stats.proofs.shrunk_row.Statement.{statement}

@@ -1,4 +1,4 @@
--- What the private functions ask of one another. Definitions only.
+-- What the private functions ask of one another and promise: may be skipped. Definitions only.
 use Prim.Native.Nat.{ℕ, _<_, _≤_}
 use mathlib.Core.Path.{_≡_}
 use mathlib.Core.List.{List}
