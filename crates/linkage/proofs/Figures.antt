@@ -24,7 +24,7 @@ use Rattle.linkage.specs.declared.NamedDistance.the-variants as distance
 use Rattle.linkage.specs.declared.NamedLinkage.{NamedLinkage}
 use Rattle.linkage.specs.declared.NamedLinkage.the-variants as linkage
 use Rattle.linkage.specs.Names.{distanceNamed, linkageNamed}
-use Rattle.linkage.specs.Merge.{wardF, updateF, before, near, better, lesser, greater, offer, look, scanRow, scanFrom, scanAll, both, movable, moved, movedAll, merged, step, copied, numbered, start, stateAt, mergeRows}
+use Rattle.linkage.specs.Merge.{wardF, updateF, pairBefore, near, better, offer, look, scanRow, scanFrom, scanAll, both, movable, moved, movedAll, merged, step, copied, start, stateAt, mergeRows}
 use Rattle.linkage.specs.Children.{childrenTable, childrenOutcome, childrenRows}
 
 abbrev all : List Bool → Bool
@@ -40,6 +40,13 @@ below40 = at 0x3fef_ffff_ffff_e000
 
 abbrev below39 : Float
 below39 = at 0x3fef_ffff_ffff_c000
+
+-- 1e-12 and the double after it
+abbrev width : Float
+width = at 0x3d71_9799_812d_ea11
+
+abbrev wider : Float
+wider = at 0x3d71_9799_812d_ea12
 
 -- symmetric, with a diagonal of 0
 abbrev three : (d01 d02 d12 : Float) → List Float
@@ -72,6 +79,15 @@ of-scope =
     ∷ same (take 2 (mergeRows Single 3 (three unit unit below39))) (1 ∷ 2 ∷ [])
     ∷ []
 
+-- 1e-12 itself is a tie, and the double after it isn't: of a pair that is nearer, and of one whose ids come first (2, 3 before 2, 4)
+abbrev ties : List Bool
+ties =
+    same (take 2 (mergeRows Single 3 (three width pz unit))) (0 ∷ 1 ∷ [])
+    ∷ same (take 2 (mergeRows Single 3 (three wider pz unit))) (0 ∷ 2 ∷ [])
+    ∷ same (mergeRows Single 4 (four pz pz unit pz unit width)) (0 ∷ 1 ∷ 2 ∷ 3 ∷ 4 ∷ 5 ∷ [])
+    ∷ same (mergeRows Single 4 (four pz pz unit pz unit wider)) (0 ∷ 1 ∷ 2 ∷ 4 ∷ 3 ∷ 5 ∷ [])
+    ∷ []
+
 abbrev methods : List Bool
 methods =
     same (mergeRows Complete 3 (replicate 9 nan)) (0 ∷ 1 ∷ 2 ∷ 3 ∷ [])
@@ -85,7 +101,10 @@ methods =
     -- and to 3 at 4.75
     ∷ same (mergeRows Complete 4 longer) (0 ∷ 1 ∷ 2 ∷ 3 ∷ 4 ∷ 5 ∷ [])
     ∷ same (mergeRows Ward 4 longer) (0 ∷ 1 ∷ 2 ∷ 4 ∷ 3 ∷ 5 ∷ [])
-    ∷ eqb (toBits binary64 (updateF Ward (at 0x4014_0000_0000_0000) (at 0x4008_0000_0000_0000) two unit unit unit)) 0x4012_79a7_4590_331c
+    -- "in its order of operations": 5.6, 9.9, 1.7 by sizes 8.9, 2.2, 5.8, and 6.4, 7.5 by sizes 2, 8, where another order or grouping ends in other bits
+    ∷ eqb (toBits binary64 (updateF Ward (at 0x4016_6666_6666_6666) (at 0x4023_cccc_cccc_cccd) (at 0x3ffb_3333_3333_3333) (at 0x4021_cccc_cccc_cccd) (at 0x4001_9999_9999_999a) (at 0x4017_3333_3333_3333)))
+    0x4021_0cf6_9eb4_5ce4
+    ∷ eqb (toBits binary64 (updateF Average (at 0x4019_9999_9999_999a) (at 0x401e_0000_0000_0000) unit two (at 0x4020_0000_0000_0000) unit)) 0x401d_1eb8_51eb_851e
     -- rows 1 and 2 are read, not columns: 0 is 3 from them, nearer than the 5 to asset 3
     ∷ same (mergeRows Single 4 lopsided) (1 ∷ 2 ∷ 0 ∷ 4 ∷ 3 ∷ 5 ∷ [])
     ∷ []
@@ -135,6 +154,6 @@ names =
     ∷ eqb (is-distance (distanceNamed (bytes ""))) 7
     ∷ []
 
-pub figures : all of-scope && all methods && all calls && all names ≡ true
-unfolding wardF updateF before near better lesser greater offer look scanRow scanFrom scanAll both movable moved movedAll merged step copied numbered start stateAt mergeRows childrenTable childrenOutcome childrenRows distanceNamed linkageNamed same lower lowered isWord first overLimit otherLength sizes laid range span minOf maxOf absOf root isqrt lt le eq isNan neg add sum sub mul div round units odd trailingZeros size ieee-span climb ofFields ofBits toBits
+pub figures : all of-scope && all ties && all methods && all calls && all names ≡ true
+unfolding wardF updateF pairBefore near better offer look scanRow scanFrom scanAll both movable moved movedAll merged step copied start stateAt mergeRows childrenTable childrenOutcome childrenRows distanceNamed linkageNamed same lower lowered isWord first overLimit otherLength sizes laid range span minOf maxOf absOf root isqrt lt le eq isNan neg add sum sub mul div round units odd trailingZeros size ieee-span climb ofFields ofBits toBits
 figures = refl

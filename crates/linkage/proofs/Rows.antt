@@ -1,28 +1,29 @@
 -- The rows that `mergeRows` gives are a tree: n - 1 rows, row k names only ids below n + k, and each id from 0 to 2n - 3 occurs once.
 -- On the way each id below n + k stands in a row or is the id of a live slot, and n - k slots are live. Assumes nothing.
-use Prim.Native.Nat.{ℕ, zero, suc, _+_, _-_, _*_, _/_, _%_, _≤_, _<_, zero-le}
+use Prim.Native.Nat.{ℕ, zero, suc, _+_, _-_, _*_, _/_, _%_, _≤_, _<_, zero-le, min, max}
 use mathlib.Core.Path.{_≡_, refl, sym, ap, _∙_, subst}
 use mathlib.Core.Logic.{⊎-elim}
 use mathlib.Core.Bool.{Bool, true, false, _&&_}
 use mathlib.Core.List.{List, [], _∷_, _++_}
-use native.Mathlib.Nat.{eq-or-lt-of-le, le-of-suc-le-suc, lt-irrefl, mod-lt}
+use native.Mathlib.Nat.{eq-or-lt-of-le, le-of-suc-le-suc, lt-irrefl, mod-lt, min-eq-left, min-eq-right, max-eq-left, max-eq-right}
 use native.Mathlib.Numerals.{add-one}
 use native.Mathlib.Omega.{arith}
 use lib.ListN.{length, getD, set, replicate, length-set, length-append, length-replicate, getD-replicate, List·getD-append}
 use lib.Seq.{getD-set-same, getD-set-other, getD-append-add}
 use lib.Dec.{ltb, eqb}
 use lib.Ieee.{Float}
-use borrow.Author.Tests.{eq-eqb, ne-eqb, lt-ltb, ltb-true}
+use borrow.Author.Tests.{eq-eqb, ne-eqb, lt-ltb, ltb-true, ltb-false}
 use Rattle.lent.specs.Count.{one, count, upto}
+use Rattle.lent.specs.Grid.{tab}
 use Rattle.lent.specs.Range.{range}
-use Rattle.lent.proofs.Laws.{either, same-or-not}
+use Rattle.lent.proofs.Laws.{either, same-or-not, length-tab, getD-tab}
 use Rattle.lent.proofs.Range.{range-none, range-more}
 use Rattle.lent.proofs.Counting.{one-true, one-false, one-le, one-lt, upto-same, upto-swap, upto-ones, upto-is, upto-le, upto-add, upto-term, count-append}
 use Rattle.tree.specs.Rows.{isTree}
 use Rattle.tree.proofs.Rows.{IsTree, tree-holds}
 use Rattle.linkage.specs.declared.Linkage.{Linkage}
 use Rattle.linkage.specs.declared.Best.{Best}
-use Rattle.linkage.specs.Merge.{State, lesser, greater, scanAll, merged, step, numbered, start, stateAt, mergeRows}
+use Rattle.linkage.specs.Merge.{State, scanAll, merged, step, start, stateAt, mergeRows}
 use Rattle.linkage.proofs.Scan.{Good, scan-good}
 
 -- ---- the counts
@@ -115,22 +116,27 @@ one-sym : (x y : ℕ) → one (eqb x y) ≡ one (eqb y x)
 one-sym x y =
     ⊎-elim (λ e. rw (eq-eqb x y e, eq-eqb y x (sym e))) (λ n. rw (ne-eqb x y n, ne-eqb y x (λ e. n (sym e)))) (same-or-not x y)
 
-both-ids : (v p q : ℕ) → one (eqb (lesser p q) v) + one (eqb (greater p q) v) ≡ one (eqb v p) + one (eqb v q)
-unfolding lesser greater
+both-ids : (v p q : ℕ) → one (eqb (min p q) v) + one (eqb (max p q) v) ≡ one (eqb v p) + one (eqb v q)
 both-ids v p q =
     let a = one-sym p v in
     let b = one-sym q v in
-    ⊎-elim (λ e. rw e (omega arith)) (λ e. rw e (omega arith)) (either (ltb q p))
+    ⊎-elim
+    (λ e. let h : q ≤ p = omega (arith, ltb-true q p e) in let x : min p q ≡ q = min-eq-right h in let y : max p q ≡ p = max-eq-left h in rw (x, y) (omega arith))
+    (λ e. let h : p ≤ q = ltb-false q p e in let x : min p q ≡ p = min-eq-left h in let y : max p q ≡ q = max-eq-right h in rw (x, y) (omega arith))
+    (either (ltb q p))
 
-lesser-below : (p q m : ℕ) → p < m → q < m → (lesser p q < m) × (greater p q < m)
-unfolding lesser greater
-lesser-below p q m hp hq = ⊎-elim (λ e. rw e (hq, hp)) (λ e. rw e (hp, hq)) (either (ltb q p))
+both-below : (p q m : ℕ) → p < m → q < m → (min p q < m) × (max p q < m)
+both-below p q m hp hq =
+    ⊎-elim
+    (λ e. let h : q ≤ p = omega (arith, ltb-true q p e) in let x : min p q ≡ q = min-eq-right h in let y : max p q ≡ p = max-eq-left h in rw (x, y) (hq, hp))
+    (λ e. let h : p ≤ q = ltb-false q p e in let x : min p q ≡ p = min-eq-left h in let y : max p q ≡ q = max-eq-right h in rw (x, y) (hp, hq))
+    (either (ltb q p))
 
 -- ---- the state before row k
 
 pub record Inv (n k : ℕ) (s : State) : Type 0 where
-  pub len-ids : length (s .ids) ≡ 64
-  pub len-live : length (s .live) ≡ 64
+  pub len-ids : length (s .ids) ≡ n
+  pub len-live : length (s .live) ≡ n
   pub len-rows : length (s .rows) ≡ 2 * k
   pub left : lives n (s .live) + k ≡ n
   pub each : (v : ℕ) → count v (s .rows) + held n v (s .ids) (s .live) ≡ one (ltb v (n + k))
@@ -195,9 +201,9 @@ module _ (n k : ℕ) (s : State) (i : Inv n k s) (best : Best) (g : Good n (s .i
   below′ j l =
       ⊎-elim
       (λ e.
-      let h : (lesser (getD (s .ids) (best .a .0) 0) (getD (s .ids) (best .b .0) 0) < n + k)
-      × (greater (getD (s .ids) (best .a .0) 0) (getD (s .ids) (best .b .0) 0) < n + k) =
-      lesser-below (getD (s .ids) (best .a .0) 0) (getD (s .ids) (best .b .0) 0) (n + k)
+      let h : (min (getD (s .ids) (best .a .0) 0) (getD (s .ids) (best .b .0) 0) < n + k)
+      × (max (getD (s .ids) (best .a .0) 0) (getD (s .ids) (best .b .0) 0) < n + k) =
+      both-below (getD (s .ids) (best .a .0) 0) (getD (s .ids) (best .b .0) 0) (n + k)
       (live-below n k s i (best .a .0) (omega (arith, g .order, g .inside)) (g .first))
       (live-below n k s i (best .b .0) (g .inside) (g .second)) in
       let x : 2 * k ≡ length (s .rows) + 0 = omega (arith, i .len-rows) in
@@ -242,53 +248,28 @@ step-inv l n k s h m i =
 
 -- ---- the start, and every state
 
--- below k, slot a has the id a
-numbered-at : (k : ℕ) → k ≤ 64 → (length (range numbered 0 k (replicate 64 0)) ≡ 64) × ((a : ℕ) → a < k → getD (range numbered 0 k (replicate 64 0)) a 0 ≡ a)
-unfolding numbered
-numbered-at zero h = (ap length (range-none numbered 0 0 (replicate 64 0) zero-le), (λ a l. absurd (no a l)))
-  where
-    no : (a : ℕ) → a < 0 → ⊥
-    no a l = omega arith
-numbered-at (suc k) h =
-    let r = numbered-at k (omega arith) in
-    let z = range numbered 0 k (replicate 64 0) in
-    let e : range numbered 0 (suc k) (replicate 64 0) ≡ set z k k =
-    ap (λ (j : ℕ). range numbered 0 j (replicate 64 0)) (sym (add-one k)) ∙ range-more numbered 0 k (replicate 64 0) zero-le in
-    rw e (
-      length-set z k k ∙ r .0,
-      (λ a l.
-          ⊎-elim
-          (λ q. rw q (getD-set-same z k k 0 (omega (arith, r .0))))
-          (λ m. getD-set-other z k a k 0 (λ q. lt-irrefl _ (subst (λ (j : ℕ). a < j) (sym q) m)) ∙ r .1 a m)
-          (eq-or-lt-of-le (le-of-suc-le-suc l))),
-    )
-
-all-live : (n : ℕ) → n ≤ 64 → lives n (replicate 64 true) ≡ n
+all-live : (n : ℕ) → lives n (replicate n true) ≡ n
 unfolding lives
-all-live n h = upto-ones (λ a. one (getD (replicate 64 true) a false)) n (λ a l. one-true _ (getD-replicate 64 a true false (omega arith)))
+all-live n = upto-ones (λ a. one (getD (replicate n true) a false)) n (λ a l. one-true _ (getD-replicate n a true false l))
 
-each₀ : (n : ℕ) → n ≤ 64 → (v : ℕ) → count v [] + held n v (range numbered 0 64 (replicate 64 0)) (replicate 64 true) ≡ one (ltb v (n + 0))
+each₀ : (n v : ℕ) → count v [] + held n v (tab n (λ k. k)) (replicate n true) ≡ one (ltb v (n + 0))
 unfolding count held holds
-each₀ n h v =
-    let r = numbered-at 64 (omega arith) in
-    let e : held n v (range numbered 0 64 (replicate 64 0)) (replicate 64 true) ≡ upto (λ a. one (eqb v a)) n =
-    upto-same (holds v (range numbered 0 64 (replicate 64 0)) (replicate 64 true)) (λ a. one (eqb v a)) n
-    (λ a l. rw (getD-replicate 64 a true false (omega arith), r .1 a (omega arith)) refl) in
+each₀ n v =
+    let e : held n v (tab n (λ k. k)) (replicate n true) ≡ upto (λ a. one (eqb v a)) n =
+    upto-same (holds v (tab n (λ k. k)) (replicate n true)) (λ a. one (eqb v a)) n
+    (λ a l. rw (getD-replicate n a true false l, getD-tab n (λ k. k) a 0 l) refl) in
     let z : n + 0 ≡ n = omega arith in
     rw z (omega (arith, e, upto-is v n))
 
-start-inv : (n : ℕ) (xs : List Float) → n ≤ 64 → Inv n 0 (start n xs)
+start-inv : (n : ℕ) (xs : List Float) → Inv n 0 (start n xs)
 unfolding start
-start-inv n xs h =
-    let ids = range numbered 0 64 (replicate 64 0) in
-    let live = replicate 64 true in
-    let r = numbered-at 64 (omega arith) in
+start-inv n xs =
     record {
-      len-ids = r .0;
-      len-live = length-replicate 64 true;
+      len-ids = length-tab n (λ k. k);
+      len-live = length-replicate n true;
       len-rows = refl;
-      left = omega (arith, all-live n h);
-      each = λ v. each₀ n h v;
+      left = omega (arith, all-live n);
+      each = λ v. each₀ n v;
       below = λ j l. absurd (none j l);
       last = λ l. absurd (none 0 l);
     }
@@ -324,7 +305,7 @@ held-two n v w ids live ne =
 -- every state on the way
 pub state-inv : (l : Linkage) (n : ℕ) (xs : List Float) → n ≤ 64 → (k : ℕ) → k + 1 ≤ n → Inv n k (stateAt l n xs k)
 unfolding stateAt
-state-inv l n xs h zero m = subst (Inv n 0) (sym (range-none (step l n) 0 0 (start n xs) zero-le)) (start-inv n xs h)
+state-inv l n xs h zero m = subst (Inv n 0) (sym (range-none (step l n) 0 0 (start n xs) zero-le)) (start-inv n xs)
 state-inv l n xs h (suc k) m =
     let e : range (step l n) 0 (suc k) (start n xs) ≡ step l n k (range (step l n) 0 k (start n xs)) =
     ap (λ (j : ℕ). range (step l n) 0 j (start n xs)) (sym (add-one k)) ∙ range-more (step l n) 0 k (start n xs) zero-le in

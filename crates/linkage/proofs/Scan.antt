@@ -1,5 +1,5 @@
 -- What the scan gives: slots below n, and, where two slots are live, a pair of live ones with their ids. Assumes nothing.
-use Prim.Native.Nat.{ℕ, _+_, _<_, zero-le}
+use Prim.Native.Nat.{ℕ, _+_, _<_, zero-le, min, max}
 use mathlib.Core.Path.{_≡_, refl, sym, subst, _∙_}
 use mathlib.Core.Bool.{Bool, true, false, not, _||_, cond, false≢true}
 use mathlib.Core.List.{List}
@@ -9,7 +9,7 @@ use lib.Ieee.{Float}
 use Rattle.lent.specs.Grid.{cell}
 use Rattle.lent.proofs.Range.{range-keeps, range-hits}
 use Rattle.linkage.specs.declared.Best.{Best}
-use Rattle.linkage.specs.Merge.{pair, nothing, better, lesser, greater, offer, look, scanRow, scanFrom, scanAll}
+use Rattle.linkage.specs.Merge.{pair, nothing, better, offer, look, scanRow, scanFrom, scanAll}
 
 -- `cond` by the value of its test
 cond-case : {A : Type 0} (P : A → Type 0) (b : Bool) (x y : A) → (b ≡ true → P x) → (b ≡ false → P y) → P (cond b x y)
@@ -25,7 +25,7 @@ In n best = (best .a .0 < n) × (best .b .0 < n)
 offer-in : (n a b : ℕ) (x : Float) (p q : ℕ) (best : Best) → a < n → b < n → In n best → In n (offer a b x p q best)
 unfolding offer
 offer-in n a b x p q best ha hb h =
-    cond-case (In n) (better best x (lesser p q) (greater p q)) (pair a b x (lesser p q) (greater p q)) best
+    cond-case (In n) (better best x (min p q) (max p q)) (pair a b x (min p q) (max p q)) best
     (λ e. (ha, hb)) (λ e. h)
 
 module _ (n : ℕ) (d : List Float) (ids : List ℕ) (live : List Bool) where
@@ -56,8 +56,8 @@ pub record Good (n : ℕ) (ids : List ℕ) (live : List Bool) (best : Best) : Ty
   pub inside : best .b .0 < n
   pub first : getD live (best .a .0) false ≡ true
   pub second : getD live (best .b .0) false ≡ true
-  pub lo : best .low .0 ≡ lesser (getD ids (best .a .0) 0) (getD ids (best .b .0) 0)
-  pub hi : best .high .0 ≡ greater (getD ids (best .a .0) 0) (getD ids (best .b .0) 0)
+  pub lo : best .low .0 ≡ min (getD ids (best .a .0) 0) (getD ids (best .b .0) 0)
+  pub hi : best .high .0 ≡ max (getD ids (best .a .0) 0) (getD ids (best .b .0) 0)
 
 abbrev Found : Best → Type 0
 Found best = best .found ≡ true
@@ -72,7 +72,7 @@ module _ (n : ℕ) (d : List Float) (ids : List ℕ) (live : List Bool) where
   offer-fine a b best l r va vb h =
       let p = getD ids a 0 in
       let q = getD ids b 0 in
-      cond-case Fine (better best (cell d n a b) (lesser p q) (greater p q)) (pair a b (cell d n a b) (lesser p q) (greater p q)) best
+      cond-case Fine (better best (cell d n a b) (min p q) (max p q)) (pair a b (cell d n a b) (min p q) (max p q)) best
       (λ e f. record { order = l; inside = r; first = va; second = vb; lo = refl; hi = refl })
       (λ e. h)
 
@@ -99,7 +99,7 @@ module _ (n : ℕ) (d : List Float) (ids : List ℕ) (live : List Bool) where
   offer-found a b best =
       let p = getD ids a 0 in
       let q = getD ids b 0 in
-      cond-case Found (better best (cell d n a b) (lesser p q) (greater p q)) (pair a b (cell d n a b) (lesser p q) (greater p q)) best
+      cond-case Found (better best (cell d n a b) (min p q) (max p q)) (pair a b (cell d n a b) (min p q) (max p q)) best
       (λ e. refl)
       (λ e. not-not (best .found) _ e)
     where

@@ -1,3 +1,4 @@
 pub mod Names
 pub mod Merge
 pub mod Children
+pub mod Inner

@@ -1,5 +1,5 @@
 -- Document 01, "Tree and leaf order": the merge step. Definitions only.
-use Prim.Native.Nat.{ℕ, _+_, _-_, _*_}
+use Prim.Native.Nat.{ℕ, _+_, _-_, _*_, min, max}
 use mathlib.Core.Bool.{Bool, true, false, not, _&&_, _||_, cond}
 use mathlib.Core.List.{List, [], _∷_, _++_}
 use lib.ListN.{getD, set, replicate}
@@ -8,7 +8,7 @@ use lib.Ieee.{Float, nan, binary64, add, sub, mul, div, lt, le, ofBits}
 use Rattle.arithmetic.specs.Constants.{pz, unit}
 use Rattle.arithmetic.specs.Arithmetic.{minOf, maxOf, absOf}
 use Rattle.arithmetic.specs.Root.{root}
-use Rattle.lent.specs.Grid.{cell, zeros}
+use Rattle.lent.specs.Grid.{cell, tab, zeros}
 use Rattle.lent.specs.Range.{range}
 use Rattle.linkage.specs.declared.Linkage.{Linkage}
 use Rattle.linkage.specs.declared.Linkage.the-variants.{Single, Complete, Average, Ward}
@@ -39,8 +39,8 @@ updateF Ward dxi dyi dxy nx ny ni = wardF dxi dyi dxy nx ny ni (div binary64 uni
 -- ---- the scan
 
 -- (p, q) comes before (r, s)
-unfoldable pub before : ℕ → ℕ → ℕ → ℕ → Bool
-before p q r s = ltb p r || (eqb p r && ltb q s)
+unfoldable pub pairBefore : ℕ → ℕ → ℕ → ℕ → Bool
+pairBefore p q r s = ltb p r || (eqb p r && ltb q s)
 
 -- "the double |difference| is ≤ 1e-12 (never for NaN or two infinities)"
 unfoldable pub near : Float → Float → Bool
@@ -51,13 +51,7 @@ unfoldable pub better : Best → Float → ℕ → ℕ → Bool
 better best x lo hi =
     not (best .found)
     || (lt (add binary64 x eps) (best .dist)
-    || (near x (best .dist) && before lo hi (best .low .0) (best .high .0)))
-
-unfoldable pub lesser : ℕ → ℕ → ℕ
-lesser p q = cond (ltb q p) q p
-
-unfoldable pub greater : ℕ → ℕ → ℕ
-greater p q = cond (ltb q p) p q
+    || (near x (best .dist) && pairBefore lo hi (best .low .0) (best .high .0)))
 
 abbrev pub pair : ℕ → ℕ → Float → ℕ → ℕ → Best
 pair a b x lo hi =
@@ -68,10 +62,10 @@ abbrev pub nothing : Best
 nothing =
     record { found = false; a = record { 0 = 0 }; b = record { 0 = 0 }; dist = pz; low = record { 0 = 0 }; high = record { 0 = 0 } }
 
--- the best after the pair of slots a, b at distance x, with ids p and q
+-- the best after the pair of slots a, b at distance x, with ids p and q: "its (smaller id, larger id)"
 unfoldable pub offer : ℕ → ℕ → Float → ℕ → ℕ → Best → Best
 offer a b x p q best =
-    cond (better best x (lesser p q) (greater p q)) (pair a b x (lesser p q) (greater p q)) best
+    cond (better best x (min p q) (max p q)) (pair a b x (min p q) (max p q)) best
 
 -- "Each of n − 1 steps scans live slots a < b in order.": the pair (a, b), where b is live
 unfoldable pub look : ℕ → List Float → List ℕ → List Bool → ℕ → ℕ → Best → Best
@@ -113,32 +107,35 @@ pub record State : Type 0 where
   pub sizes : List Float
   pub rows : List ℕ
 
-abbrev pub state : List Float → List ℕ → List Bool → List Float → List ℕ → State
-state d i v z r = record { cells = d; ids = i; live = v; sizes = z; rows = r }
-
 -- "Row k holds the two ids, smaller first; the lower slot becomes id n + k with the summed size; the other dies."
 unfoldable pub merged : Linkage → ℕ → ℕ → State → Best → State
 merged l n k s best =
-    state
-    (movedAll l n (s .sizes) (s .live) (best .a .0) (best .b .0) (best .dist) (s .cells))
-    (set (s .ids) (best .a .0) (n + k))
-    (set (s .live) (best .b .0) false)
-    (set (s .sizes) (best .a .0) (add binary64 (getD (s .sizes) (best .a .0) nan) (getD (s .sizes) (best .b .0) nan)))
-    (s .rows ++ (best .low .0 ∷ best .high .0 ∷ []))
+    record {
+      cells = movedAll l n (s .sizes) (s .live) (best .a .0) (best .b .0) (best .dist) (s .cells);
+      ids = set (s .ids) (best .a .0) (n + k);
+      live = set (s .live) (best .b .0) false;
+      sizes = set (s .sizes) (best .a .0) (add binary64 (getD (s .sizes) (best .a .0) nan) (getD (s .sizes) (best .b .0) nan));
+      rows = s .rows ++ (best .low .0 ∷ best .high .0 ∷ []);
+    }
 
 unfoldable pub step : Linkage → ℕ → ℕ → State → State
 step l n k s = merged l n k s (scanAll n (s .cells) (s .ids) (s .live))
 
--- "Work on a working matrix of 4,096 cells, all zero at the start, filled from the caller's." "Slots 0 to n − 1 begin with the assets, size 1."
+-- "Work on a working matrix of 4,096 cells, all zero at the start, filled from the caller's."
 unfoldable pub copied : List Float → ℕ → List Float → List Float
 copied xs k d = set d k (getD xs k nan)
 
-unfoldable pub numbered : ℕ → List ℕ → List ℕ
-numbered k ids = set ids k k
-
+-- "Slots 0 to n − 1 begin with the assets, size 1."
 unfoldable pub start : ℕ → List Float → State
+unfolding tab
 start n xs =
-    state (range (copied xs) 0 (n * n) (zeros 4096)) (range numbered 0 64 (replicate 64 0)) (replicate 64 true) (replicate 64 unit) []
+    record {
+      cells = range (copied xs) 0 (n * n) (zeros 4096);
+      ids = tab n (λ k. k);
+      live = replicate n true;
+      sizes = replicate n unit;
+      rows = [];
+    }
 
 -- the state before row k, and the rows of an n by n matrix
 unfoldable pub stateAt : Linkage → ℕ → List Float → ℕ → State

@@ -7,13 +7,14 @@ use tree::Asset;
 use tree::Node;
 ghost use mathlib.Core.List.{[], _∷_, _++_};
 ghost use mathlib.Core.Path.{_≡_};
-ghost use Prim.Native.Nat.{_+_, _-_, _*_, _<_, _≤_};
+ghost use Prim.Native.Nat.{_+_, _-_, _*_, _<_, _≤_, min, max};
 ghost use lib.ListN.{length, take, drop};
 ghost use Rattle.refusal.specs.Table.{first};
 ghost use Rattle.lent.specs.Grid.{cell, over};
 ghost use Rattle.lent.specs.Range.{range};
 ghost use Rattle.linkage.specs.Names.{distanceNamed, linkageNamed};
-ghost use Rattle.linkage.specs.Merge.{near, before, lesser, greater, better, offer, scanRow, scanAll, wardF, updateF, both, moved, movedAll, step, state, copied, numbered, mergeRows};
+ghost use Rattle.linkage.specs.Merge.{near, pairBefore, better, offer, scanRow, scanAll, wardF, updateF, both, moved, movedAll, step, copied, mergeRows};
+ghost use Rattle.linkage.specs.Inner.{state, numbered};
 ghost use Rattle.linkage.specs.Children.{childrenTable, childrenAnswer, childrenRows};
 
 // Distances no farther apart than this are a tie.
@@ -102,7 +103,7 @@ impl Linkage {
         match self {
             Self::Single => arithmetic::min(d_xi, d_yi),
             Self::Complete => arithmetic::max(d_xi, d_yi),
-            Self::Average => (n_x * d_xi + n_y * d_yi) / (n_x + n_y),
+            Self::Average => arithmetic::settled((n_x * d_xi + n_y * d_yi) / (n_x + n_y)),
             Self::Ward => ward(d_xi, d_yi, d_xy, n_x, n_y, n_i, 1.0 / (n_x + n_y + n_i)),
         }
     }
@@ -118,7 +119,7 @@ fn is_near(x: f64, y: f64) -> bool
 
 // (p, q) comes before (r, s).
 fn comes_before(p: Node, q: Node, r: Node, s: Node) -> bool
-    ensures { λ z. ⌜ z ≡ before (p .0) (q .0) (r .0) (s .0) ⌝ }
+    ensures { λ z. ⌜ z ≡ pairBefore (p .0) (q .0) (r .0) (s .0) ⌝ }
 {
     if p.0 < r.0 {
         return true;
@@ -130,20 +131,20 @@ fn comes_before(p: Node, q: Node, r: Node, s: Node) -> bool
 }
 
 fn smaller(p: Node, q: Node) -> Node
-    ensures { λ r. ⌜ r .0 ≡ lesser (p .0) (q .0) ⌝ }
+    ensures { λ r. ⌜ r .0 ≡ min (p .0) (q .0) ⌝ }
 {
     if q.0 < p.0 { q } else { p }
 }
 
 fn larger(p: Node, q: Node) -> Node
-    ensures { λ r. ⌜ r .0 ≡ greater (p .0) (q .0) ⌝ }
+    ensures { λ r. ⌜ r .0 ≡ max (p .0) (q .0) ⌝ }
 {
     if q.0 < p.0 { p } else { q }
 }
 
 // A pair of ids p and q at distance x replaces the best. The ids are put in order for a tie alone.
 fn is_better(best: Best, x: f64, p: Node, q: Node) -> bool
-    ensures { λ r. ⌜ r ≡ better best x (lesser (p .0) (q .0)) (greater (p .0) (q .0)) ⌝ }
+    ensures { λ r. ⌜ r ≡ better best x (min (p .0) (q .0)) (max (p .0) (q .0)) ⌝ }
 {
     if !best.found {
         return true;

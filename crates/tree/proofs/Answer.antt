@@ -24,8 +24,8 @@ use Rattle.lent.specs.declared.Answer.the-variants.{Matrix}
 use Rattle.lent.proofs.Sizes.{Squared, squared-done, laid-done, laid-refused}
 use Rattle.tree.specs.Rows.{isTree, isOrder}
 use Rattle.tree.specs.Tree.{leavesOf}
-use Rattle.tree.specs.Order.{orderTable, orderOutcome, orderAnswer, orderOf, seriatedCell, seriateOutcome, seriateAnswer, seriated}
-use Rattle.tree.specs.Walk.{OnTree, Ready, Written, Seriable}
+use Rattle.tree.specs.Order.{orderTable, orderOutcome, orderAnswer, orderLaid, seriatedCell, seriateOutcome, seriateAnswer, seriated}
+use Rattle.tree.specs.Inner.{OnTree, Ready, Written, Seriable}
 use Rattle.tree.proofs.Rows.{is-order}
 use Rattle.tree.proofs.Order.{leaves-few}
 
@@ -64,8 +64,8 @@ module _ {rows : List ℕ} {n v room : ℕ} (p : Ordered rows n v room) where
   unfolding orderAnswer answerOf
   order-answered = rw order-passes
 
-  pub order-laid : orderOf rows n v room ≡ leavesOf rows n v ++ noughts (room - length (leavesOf rows n v))
-  unfolding orderOf laid
+  pub order-laid : orderLaid rows n v room ≡ leavesOf rows n v ++ noughts (room - length (leavesOf rows n v))
+  unfolding orderLaid laid
   order-laid = rw order-passes
 
 -- the steps of `quasi_diagonalization`, which has judged, and then cleared the buffer to mid
@@ -75,8 +75,8 @@ module _ (rows : List ℕ) (n v room : ℕ) (said : Outcome) (mid : List ℕ) (e
   unfolding orderAnswer answerOf
   order-refused r a b h = rw (← e, h)
 
-  pub order-cleared : (r : Refusal) → said ≡ Refused r → mid ≡ orderOf rows n v room
-  unfolding orderOf
+  pub order-cleared : (r : Refusal) → said ≡ Refused r → mid ≡ orderLaid rows n v room
+  unfolding orderLaid
   order-cleared r h = z ∙ laid-refused 0 (orderOutcome rows n v room) r room (leavesOf rows n v) (sym e ∙ h)
 
   pub order-ready : said ≡ Done → Ready rows n v mid
@@ -89,8 +89,8 @@ module _ (rows : List ℕ) (n v room : ℕ) (said : Outcome) (mid : List ℕ) (e
   unfolding orderAnswer
   order-told after m w = rw (e, w .size)
 
-  pub order-written : (after : List ℕ) (m : ℕ) → said ≡ Done → Written rows n v mid after m → after ≡ orderOf rows n v room
-  unfolding orderOf
+  pub order-written : (after : List ℕ) (m : ℕ) → said ≡ Done → Written rows n v mid after m → after ≡ orderLaid rows n v room
+  unfolding orderLaid
   order-written after m h w =
       w .list ∙ ap (over (leavesOf rows n v)) z ∙ laid-done 0 (orderOutcome rows n v room) room (leavesOf rows n v) (sym e ∙ h)
 

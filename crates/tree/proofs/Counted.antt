@@ -8,7 +8,7 @@ use lib.ListN.{length, getD, set, drop, replicate, length-set, getD-replicate}
 use lib.Seq.{getD-set-same, getD-set-other}
 use Rattle.lent.specs.Count.{count}
 use Rattle.lent.proofs.Laws.{same-or-not}
-use Rattle.tree.specs.Walk.{Tallied}
+use Rattle.tree.specs.Inner.{Tallied}
 use Rattle.tree.proofs.Rows.{count-hit, count-miss, count-end}
 
 -- after the first i entries

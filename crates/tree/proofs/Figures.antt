@@ -15,7 +15,7 @@ use Rattle.lent.specs.declared.Answer.{Answer}
 use Rattle.lent.specs.declared.Answer.the-variants.{Matrix, Refused}
 use Rattle.tree.specs.Rows.{below, once, isTree, isOrder}
 use Rattle.tree.specs.Tree.{grow, treeAt, leaves, leavesOf}
-use Rattle.tree.specs.Order.{orderTable, orderOutcome, orderAnswer, orderOf, seriatedCell, seriateOutcome, seriateAnswer, seriated}
+use Rattle.tree.specs.Order.{orderTable, orderOutcome, orderAnswer, orderLaid, seriatedCell, seriateOutcome, seriateAnswer, seriated}
 
 abbrev all : List Bool → Bool
 all [] = true
@@ -67,22 +67,22 @@ orders =
     are (leavesOf three 3 4) (2 ∷ 0 ∷ 1 ∷ [])
     -- in a buffer with an entry to spare; and the leaves of row 0 and of an asset
     ∷ made (orderAnswer three 3 4 4) 1 3
-    ∷ are (orderOf three 3 4 4) (2 ∷ 0 ∷ 1 ∷ 0 ∷ [])
+    ∷ are (orderLaid three 3 4 4) (2 ∷ 0 ∷ 1 ∷ 0 ∷ [])
     ∷ made (orderAnswer three 3 3 3) 1 2
-    ∷ are (orderOf three 3 3 3) (0 ∷ 1 ∷ 0 ∷ [])
+    ∷ are (orderLaid three 3 3 3) (0 ∷ 1 ∷ 0 ∷ [])
     ∷ made (orderAnswer three 3 2 3) 1 1
-    ∷ are (orderOf three 3 2 3) (2 ∷ 0 ∷ 0 ∷ [])
-    ∷ are (orderOf [] 1 0 1) (0 ∷ [])
+    ∷ are (orderLaid three 3 2 3) (2 ∷ 0 ∷ 0 ∷ [])
+    ∷ are (orderLaid [] 1 0 1) (0 ∷ [])
     -- a node above 2n − 2, no tree
     ∷ refused (orderAnswer three 3 5 3) 14
-    ∷ are (orderOf three 3 5 3) (0 ∷ 0 ∷ 0 ∷ [])
+    ∷ are (orderLaid three 3 5 3) (0 ∷ 0 ∷ 0 ∷ [])
     ∷ refused (orderAnswer (0 ∷ 1 ∷ []) 3 4 3) 14
     -- n = 0 is 1, also where there is no tree and no node; 9 and 11 come before
     ∷ refused (orderAnswer [] 0 0 0) 1
     ∷ refused (orderAnswer three 0 5 2) 1
     ∷ refused (orderAnswer [] 65 0 0) 9
     ∷ refused (orderAnswer [] 3 9 2) 11
-    ∷ are (orderOf [] 3 9 2) (0 ∷ 0 ∷ [])
+    ∷ are (orderLaid [] 3 9 2) (0 ∷ 0 ∷ [])
     ∷ []
 
 -- rows 1 2 3, 4 5 6 and 7 8 9, each number a double's bits
@@ -110,5 +110,5 @@ seriations =
     ∷ []
 
 pub figures : all trees && all orders && all seriations ≡ true
-unfolding count below once isTree isOrder grow treeAt leaves first orderTable orderOutcome orderAnswer orderOf overLimit otherLength sizes squares laid answerOf tab grid seriatedCell seriateOutcome seriateAnswer seriated round units odd trailingZeros size span climb ofFields ofBits toBits
+unfolding count below once isTree isOrder grow treeAt leaves first orderTable orderOutcome orderAnswer orderLaid overLimit otherLength sizes squares laid answerOf tab grid seriatedCell seriateOutcome seriateAnswer seriated round units odd trailingZeros size span climb ofFields ofBits toBits
 figures = refl

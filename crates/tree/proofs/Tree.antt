@@ -13,7 +13,7 @@ use lib.Dec.{ltb}
 use lib.ListN.{length}
 use borrow.Author.Tests.{lt-ltb, le-ltb, ltb-false}
 use Rattle.tree.specs.Tree.{leaf, fork, left, right, grow, treeAt}
-use Rattle.tree.specs.Walk.{OnTree}
+use Rattle.tree.specs.Inner.{OnTree}
 use Rattle.tree.proofs.Rows.{IsTree, is-tree}
 
 grow-leaf : (d : ℕ) (rows : List ℕ) (n v : ℕ) → grow d true rows n v ≡ leaf v

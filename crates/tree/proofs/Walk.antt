@@ -9,7 +9,7 @@ use lib.Seq.{take-at, drop-at, take-all, drop-drop}
 use Rattle.lent.specs.Grid.{over}
 use Rattle.lent.proofs.Laws.{length-over}
 use Rattle.tree.specs.Tree.{left, right, leaves, leavesOf}
-use Rattle.tree.specs.Walk.{OnTree, Ready, Written}
+use Rattle.tree.specs.Inner.{OnTree, Ready, Written}
 use Rattle.tree.proofs.Tree.{tree-leaf, tree-on, on-left, on-right}
 
 -- ---- at an asset

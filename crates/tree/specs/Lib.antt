@@ -1,4 +1,4 @@
 pub mod Rows
 pub mod Tree
 pub mod Order
-pub mod Walk
+pub mod Inner

@@ -33,8 +33,8 @@ orderOutcome rows n v room = first (orderTable rows n v room)
 unfoldable pub orderAnswer : List ℕ → ℕ → ℕ → ℕ → Answer
 orderAnswer rows n v room = answerOf (orderOutcome rows n v room) 1 (length (leavesOf rows n v))
 
-unfoldable pub orderOf : List ℕ → ℕ → ℕ → ℕ → List ℕ
-orderOf rows n v room = laid 0 (orderOutcome rows n v room) room (leavesOf rows n v)
+unfoldable pub orderLaid : List ℕ → ℕ → ℕ → ℕ → List ℕ
+orderLaid rows n v room = laid 0 (orderOutcome rows n v room) room (leavesOf rows n v)
 
 -- seriated: cell (i, j) is the cell of the i-th and j-th asset of the order
 unfoldable pub seriatedCell : List Float → ℕ → List ℕ → ℕ → ℕ → Float

@@ -11,8 +11,8 @@ ghost use lib.ListN.{length, set};
 ghost use Rattle.lent.specs.Count.{count};
 ghost use Rattle.lent.specs.Grid.{cell, grid, over};
 ghost use Rattle.tree.specs.Rows.{below, once, isTree, isOrder};
-ghost use Rattle.tree.specs.Order.{orderOutcome, orderAnswer, orderOf, seriatedCell, seriateOutcome, seriateAnswer, seriated};
-ghost use Rattle.tree.specs.Walk.{Tallied, Ready, Written, Seriable};
+ghost use Rattle.tree.specs.Order.{orderOutcome, orderAnswer, orderLaid, seriatedCell, seriateOutcome, seriateAnswer, seriated};
+ghost use Rattle.tree.specs.Inner.{Tallied, Ready, Written, Seriable};
 
 // A node's id: an asset's number below n, and n + k for row k.
 pub struct Node(pub usize);
@@ -196,7 +196,7 @@ fn judge_order(rows: &[usize], n: usize, node: Node, room: usize) -> Outcome
 // The leaves below a node, the left child's before the right child's, with zeros after them.
 pub fn quasi_diagonalization(rows: &[usize], n: usize, node: Node, out: &mut [usize]) -> Answer
     ensures { λ r. ⌜ r ≡ orderAnswer (now (rows .entry)) n (node .0) (length (now (out .entry))) ⌝ }
-    ensures { λ r. ⌜ now (out .exit) ≡ orderOf (now (rows .entry)) n (node .0) (length (now (out .entry))) ⌝ }
+    ensures { λ r. ⌜ now (out .exit) ≡ orderLaid (now (rows .entry)) n (node .0) (length (now (out .entry))) ⌝ }
 {
     let said = judge_order(rows, n, node, out.len());
     lent::clear_numbers(out);

@@ -1,7 +1,9 @@
 -- `linkage::judge` meets its contract. Assumes nothing.
-use mathlib.Core.Path.{sym, _∙_}
+use Prim.Native.Nat.{ℕ, _-_, _*_}
+use mathlib.Core.Path.{_≡_, refl, sym, ap, _∙_}
+use lib.Dec.{ltb}
 use native.Mathlib.Omega.{arith}
-use Rattle.refusal.proofs.Tables.{table, table-end}
+use Rattle.refusal.proofs.Tables.{said-line, said-last}
 use Rattle.lent.proofs.Sizes.{sized-done}
 use Rattle.linkage.proofs.Judged.{children-refused, children-sized}
 use borrow.Author.Needs.{needs}
@@ -38,7 +40,9 @@ returns-2 : tie.Need-returns-2
 returns-2 c =
     let s = c .before .before .before .before .before in
     let e = children-sized _ _ _ (s .before .args .room) (sym (s .sized .ensures) ∙ c .before .before .before .enum-told .given .1) in
-    rw (e, ← c .before .merges .ensures) (simp (table, table-end) (cc))
+    let m : ltb (s .before .args .room) (2 * c .before .merges .result) ≡ ltb (s .before .args .room) (2 * (s .before .args .columns - 1)) =
+    ap (λ (k : ℕ). ltb (s .before .args .room) (2 * k)) (c .before .merges .ensures) in
+    rw e (said-line _ _ _ _ _ _ m (said-last _ _ _ _ refl (c .before .before .refuse .ensures)) (c .refuse2 .ensures))
 
 pub judge-spec : {M : Type 1} → statement M
 judge-spec =

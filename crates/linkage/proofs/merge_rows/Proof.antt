@@ -10,9 +10,11 @@ use denote.Ref.{now}
 use Rattle.arithmetic.specs.Constants.{unit}
 use Rattle.lent.specs.Range.{range}
 use Rattle.lent.proofs.Laws.{square-in}
-use Rattle.linkage.specs.Merge.{State, state, step, start, stateAt, mergeRows}
+use Rattle.linkage.specs.Merge.{State, step, start, stateAt, mergeRows}
+use Rattle.linkage.specs.Inner.{state}
 use Rattle.linkage.proofs.Laws.{over-parts}
 use Rattle.linkage.proofs.Rows.{rows-length}
+use Rattle.linkage.proofs.Front.{rows-front}
 use borrow.Author.Needs.{needs}
 use Rattle.linkage.proofs.merge_rows.Statement.{statement}
 use Rattle.linkage.proofs.merge_rows.Tie as tie
@@ -35,10 +37,9 @@ steps-requires : tie.Need-steps-requires
 steps-requires c κs = search needs
 
 same-length : tie.Need-same-length
-same-length c = search needs
+same-length c = c .before .before .steps .kept .1 .1 .1 .1 .1 .1 .1 .0
 
 returns : tie.Need-returns
-unfolding mergeRows stateAt start
 returns c =
     let t = c .before .before in
     let m = t .before .before .before .before .before .before in
@@ -51,7 +52,7 @@ returns c =
     let e = m .merges .ensures in
     let s = rw e at (t .steps .ensures) in
     over-parts out _ (now (g .args .rows)) (2 * (g .args .n - 1)) (rows-length (g .args .method) (g .args .n) (now (g .args .xs)) (g .pre .0))
-    (ap (λ (s : State). s .rows) (s .0) ∙ ap₂ r (f .fill .ensures) (n .number .ensures))
+    (ap (λ (s : State). s .rows) (s .0) ∙ ap₂ r (f .fill .ensures) (n .number .ensures) ∙ rows-front (g .args .method) (g .args .n) (now (g .args .xs)) (g .pre .0))
     (s .1)
 
 pub merge-rows-spec : {M : Type 1} → statement M

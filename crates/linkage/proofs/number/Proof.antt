@@ -6,7 +6,7 @@ use native.Mathlib.Omega.{arith}
 use denote.Ref.{now}
 use Rattle.lent.specs.Range.{range}
 use Rattle.lent.proofs.Range.{range-none, range-more, range-end}
-use Rattle.linkage.specs.Merge.{numbered}
+use Rattle.linkage.specs.Inner.{numbered}
 use Rattle.linkage.proofs.number.Statement.{statement}
 use Rattle.linkage.proofs.number.Tie as tie
 

@@ -1,16 +1,15 @@
 -- `linkage::smaller` meets its contract. Assumes nothing.
-use borrow.Author.Tests.{lt-ltb, le-ltb}
-use Rattle.linkage.specs.Merge.{lesser}
+use mathlib.Core.Path.{sym}
+use native.Mathlib.Omega.{arith}
+use native.Mathlib.Nat.{min-eq-left, min-eq-right, max-eq-left, max-eq-right}
 use Rattle.linkage.proofs.smaller.Statement.{statement}
 use Rattle.linkage.proofs.smaller.Tie as tie
 
 returns : tie.Need-returns
-unfolding lesser
-returns c = simp (lt-ltb _ _ (c .if1 .taken))
+returns c = sym (min-eq-right (omega (arith, c .if1 .taken)))
 
 returns-2 : tie.Need-returns-2
-unfolding lesser
-returns-2 c = simp (le-ltb _ _ (c .if1 .left))
+returns-2 c = sym (min-eq-left (c .if1 .left))
 
 pub smaller-spec : {M : Type 1} → statement M
 smaller-spec = tie.close (tie.spec returns returns-2)

@@ -53,7 +53,7 @@ put-row-requires : tie.Need-put-row-requires
 put-row-requires c κs = search needs
 
 same-length : tie.Need-same-length
-same-length c = search needs
+same-length c = c .before .before .put-row .kept .0
 
 returns : tie.Need-returns
 unfolding step merged

@@ -9,7 +9,8 @@ use Rattle.lent.proofs.Range.{range-none, range-more}
 use mathlib.Core.List.{[]}
 use lib.ListN.{length, take, drop}
 use Rattle.linkage.proofs.Laws.{drop-more}
-use Rattle.linkage.specs.Merge.{step, state}
+use Rattle.linkage.specs.Merge.{step}
+use Rattle.linkage.specs.Inner.{state}
 use Rattle.linkage.proofs.steps.Statement.{statement}
 use Rattle.linkage.proofs.steps.Tie as tie
 

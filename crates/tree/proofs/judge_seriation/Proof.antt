@@ -1,7 +1,9 @@
 -- `tree::judge_seriation` meets its contract. Assumes nothing.
-use mathlib.Core.Path.{sym, _∙_}
+use mathlib.Core.Path.{sym, ap, _∙_}
+use mathlib.Core.Bool.{not}
+use mathlib.Core.List.{[]}
 use borrow.Author.Needs.{needs}
-use Rattle.refusal.proofs.Tables.{table, table-end, first-done, first-refused}
+use Rattle.refusal.proofs.Tables.{said-line, table-end, first-done, first-refused}
 use Rattle.tree.specs.Order.{seriateOutcome}
 use Rattle.tree.proofs.judge_seriation.Statement.{statement}
 use Rattle.tree.proofs.judge_seriation.Tie as tie
@@ -29,7 +31,7 @@ returns-2 : tie.Need-returns-2
 unfolding seriateOutcome
 returns-2 c =
     let e = sym (c .before .before .before .before .squared .ensures) ∙ c .before .before .enum-told .given .1 in
-    rw (first-done _ _ e) (simp (table, table-end) (cc))
+    rw (first-done _ _ e) (said-line _ _ _ [] _ _ (ap not (c .before .is-order .ensures)) (c .before .before .enum-told .given .1 ∙ sym table-end) (c .refuse .ensures))
 
 pub judge-seriation-spec : {M : Type 1} → statement M
 judge-seriation-spec =

@@ -3,7 +3,8 @@ use Prim.Native.Nat.{_*_, _-_, _≤_}
 use mathlib.Core.Path.{_≡_}
 use native.Mathlib.Omega.{arith}
 use lib.ListN.{length}
-use Rattle.lent.specs.Grid.{part, over}
+use Rattle.lent.specs.Grid.{over}
+use Rattle.lent.specs.Inner.{part}
 use Rattle.lent.proofs.Fill.{filling, cells-step}
 use Rattle.tree.specs.Order.{seriatedCell}
 use Rattle.tree.proofs.seriate_row.Statement.{statement}

@@ -19,6 +19,9 @@ max-requires c κs = search needs
 enum-told-3 : tie.Need-enum-told-3
 enum-told-3 c = search needs
 
+settled-requires : tie.Need-settled-requires
+settled-requires c κs = search needs
+
 enum-told-4 : tie.Need-enum-told-4
 enum-told-4 c = search needs
 
@@ -35,7 +38,7 @@ returns-2 c = rw (c .before .enum-told2 .given .1) (c .max .ensures)
 
 returns-3 : tie.Need-returns-3
 unfolding updateF
-returns-3 c = rw (c .enum-told3 .given .1)
+returns-3 c = rw (c .before .enum-told3 .given .1) (c .settled .ensures)
 
 returns-4 : tie.Need-returns-4
 unfolding updateF
@@ -50,6 +53,7 @@ update-spec =
     enum-told-2
     max-requires
     enum-told-3
+    settled-requires
     enum-told-4
     ward-requires
     returns

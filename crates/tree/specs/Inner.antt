@@ -1,4 +1,4 @@
--- What the private functions that walk down a tree, and fill a matrix, ask and promise. Definitions only.
+-- What the private functions ask of one another and promise: may be skipped. Definitions only.
 use mathlib.Core.Path.{_≡_}
 use mathlib.Core.Bool.{true}
 use mathlib.Core.List.{List}
