@@ -15,9 +15,9 @@ use Rattle.lent.specs.Lent.{overLimit, otherLength, sizes, laid, answerOf}
 use Rattle.lent.specs.declared.Answer.{Answer}
 use Rattle.lent.specs.declared.Answer.the-variants as answer
 use Rattle.tree.specs.Rows.{once, isOrder}
-use Rattle.clusters.specs.Clusters.{recip, recipSum, shares, term, varianceOf, outside, anyLow, riskTable, sizeTable, varianceOutcome, varianceAnswer}
+use Rattle.clusters.specs.Clusters.{recip, recipSum, shares, term, varianceOf, outside, anyListedLow, riskTable, sizeTable, varianceOutcome, varianceAnswer}
 use Rattle.clusters.specs.Shares.{isNone, weightsIn}
-use Rattle.bisection.specs.Bisection.{factorOf, splitOf, halved, bisected, normal, weightsOf, callTable, bisectionTable, bisectionOutcome, bisectionAnswer, bisectionWeights}
+use Rattle.bisection.specs.Bisection.{factorOf, sidesFactor, halved, bisected, normal, bisectionShares, bisectionGiven, bisectionTable, bisectionOutcome, bisectionAnswer, bisectionWeights}
 
 abbrev all : List Bool → Bool
 all [] = true
@@ -71,7 +71,10 @@ three = 0x4008_0000_0000_0000
 abbrev minus : ℕ
 minus = 0xbff0_0000_0000_0000
 
--- infinity, NaN
+-- 2^-60, infinity, NaN
+abbrev tiny : ℕ
+tiny = 0x3c30_0000_0000_0000
+
 abbrev big : ℕ
 big = 0x7ff0_0000_0000_0000
 
@@ -98,6 +101,8 @@ figure-list =
     ∷ same (weights (diagonal big one) 2 2 both 2) (1 ∷ p0 ∷ p0 ∷ [])
     -- the right side is refused as the left is
     ∷ same (weights (diagonal one p0) 2 2 both 2) (1 ∷ p0 ∷ p0 ∷ [])
+    -- EPSILON counts: (2^-60, 2^-60)
+    ∷ same (weights (diagonal tiny tiny) 2 2 both 2) (0 ∷ 0x3fef_e03f_80fe_03f8 ∷ 0x3f6f_c07f_01fc_0800 ∷ [])
     -- the left part of three is one asset: (1), then (2, 2)
     ∷ same (weights (diagonal3 one two two) 3 3 (0 ∷ 1 ∷ 2 ∷ []) 3) (0 ∷ mid ∷ quarter ∷ quarter ∷ [])
     ∷ same (weights (diagonal3 two two one) 3 3 (2 ∷ 0 ∷ 1 ∷ []) 3) (0 ∷ quarter ∷ quarter ∷ mid ∷ [])
@@ -119,5 +124,5 @@ figure-list =
     ∷ []
 
 pub figures : all figure-list ≡ true
-unfolding factorOf splitOf halved bisected normal weightsOf callTable bisectionTable bisectionOutcome bisectionAnswer bisectionWeights isNone weightsIn recip recipSum shares term varianceOf outside anyLow riskTable sizeTable varianceOutcome varianceAnswer isOrder once count first tab sumTo sumOn sumRows anyTo overLimit otherLength sizes laid answerOf maxOf lt le isNan add sum sub neg mul div round units odd trailingZeros size span climb ofFields ofBits toBits
+unfolding factorOf sidesFactor halved bisected normal bisectionShares bisectionGiven bisectionTable bisectionOutcome bisectionAnswer bisectionWeights isNone weightsIn recip recipSum shares term varianceOf outside anyListedLow riskTable sizeTable varianceOutcome varianceAnswer isOrder once count first tab sumTo sumOn sumRows anyTo overLimit otherLength sizes laid answerOf maxOf lt le isNan add sum sub neg mul div round units odd trailingZeros size span climb ofFields ofBits toBits
 figures = refl

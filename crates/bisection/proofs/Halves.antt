@@ -13,19 +13,20 @@ use Rattle.refusal.specs.declared.Refusal.{Refusal}
 use Rattle.lent.specs.Grid.{zeros, tab, over, sumTo}
 use Rattle.lent.proofs.Laws.{length-tab, over-all}
 use Rattle.clusters.specs.Clusters.{varianceAnswer}
-use Rattle.clusters.specs.Shares.{Shares, none, some, andThen, withRisk, told}
+use Rattle.clusters.specs.Shares.{Shares, none, some, withShares, withRisk}
+use Rattle.clusters.specs.Inner.{told}
 use Rattle.clusters.specs.declared.Risk.{Risk}
 use Rattle.clusters.specs.declared.Risk.the-variants as risk
-use Rattle.bisection.specs.Bisection.{factorOf, middle, splitOf, halved, bisected, normal, weightsOf}
+use Rattle.bisection.specs.Bisection.{factorOf, middle, sidesFactor, halved, bisected, normal, bisectionShares}
 
 risk-ext : (v : Risk) (f g : Float → Shares) → ((x : Float) → f x ≡ g x) → withRisk v f ≡ withRisk v g
 risk-ext (risk.Refused k) f g h = refl
 risk-ext (risk.Of x) f g h = h x
 
-then-ext : (s t : Shares) (f g : List Float → Shares) → s ≡ t → ((x : List Float) → f x ≡ g x) → andThen s f ≡ andThen t g
-then-ext s t f g e h = ap (λ (q : Shares). andThen q f) e ∙ at t
+then-ext : (s t : Shares) (f g : List Float → Shares) → s ≡ t → ((x : List Float) → f x ≡ g x) → withShares s f ≡ withShares t g
+then-ext s t f g e h = ap (λ (q : Shares). withShares q f) e ∙ at t
   where
-    at : (q : Shares) → andThen q f ≡ andThen q g
+    at : (q : Shares) → withShares q f ≡ withShares q g
     at none = refl
     at (some x) = h x
 
@@ -65,17 +66,17 @@ module _ (part : List ℕ) (room : ℕ) (all : (k : ℕ) → k < length part →
 -- ---- the factor of two halves
 
 module _ (cov : List Float) (n : ℕ) (part : List ℕ) where
-  pub split-left : (v : Risk) (k : Refusal) → v ≡ varianceAnswer cov n n (take (middle part) part) → v ≡ risk.Refused k → v ≡ splitOf cov n part
-  unfolding splitOf
+  pub split-left : (v : Risk) (k : Refusal) → v ≡ varianceAnswer cov n n (take (middle part) part) → v ≡ risk.Refused k → v ≡ sidesFactor cov n part
+  unfolding sidesFactor
   split-left v k e h = h ∙ rw (← e, h)
 
   module _ (v w : Risk) (x : Float) (e : v ≡ varianceAnswer cov n n (take (middle part) part)) (h : v ≡ risk.Of x) (g : w ≡ varianceAnswer cov n n (take (length part - middle part) (drop (middle part) part))) where
-    pub split-right : (k : Refusal) → w ≡ risk.Refused k → w ≡ splitOf cov n part
-    unfolding splitOf
+    pub split-right : (k : Refusal) → w ≡ risk.Refused k → w ≡ sidesFactor cov n part
+    unfolding sidesFactor
     split-right k q = q ∙ rw (← rest-whole part, ← e, h, ← g, q)
 
-    pub split-both : (y f : Float) → w ≡ risk.Of y → f ≡ factorOf x y → risk.Of f ≡ splitOf cov n part
-    unfolding splitOf
+    pub split-both : (y f : Float) → w ≡ risk.Of y → f ≡ factorOf x y → risk.Of f ≡ sidesFactor cov n part
+    unfolding sidesFactor
     split-both y f q p = rw (p, ← rest-whole part, ← e, h, ← g, q)
 
 -- ---- sharing, without the bound on the depth: any that is long enough serves
@@ -93,7 +94,7 @@ enough (suc d) (suc e) cov n (a ∷ b ∷ more) w ws h g =
     let part = a ∷ b ∷ more in
     let l = left-length part in
     let r = right-length part in
-    risk-ext (splitOf cov n part) _ _
+    risk-ext (sidesFactor cov n part) _ _
     (λ f. then-ext _ _ _ _
     (enough d e cov n (take (middle part) part) (mul binary64 w f) ws (omega arith) (omega arith))
     (λ mid. enough d e cov n (drop (middle part) part) (mul binary64 w (sub binary64 unit f)) mid (omega arith) (omega arith)))
@@ -111,8 +112,8 @@ bisect-one cov n (a ∷ b ∷ part) w ws e = absurd (omega arith)
 
 pub bisect-two : (cov : List Float) (n : ℕ) (part : List ℕ) (w : Float) (ws : List Float) → 2 ≤ length part
     → bisected cov n part w ws
-    ≡ withRisk (splitOf cov n part)
-    (λ f. andThen (bisected cov n (take (middle part) part) (mul binary64 w f) ws)
+    ≡ withRisk (sidesFactor cov n part)
+    (λ f. withShares (bisected cov n (take (middle part) part) (mul binary64 w f) ws)
     (λ mid. bisected cov n (drop (middle part) part) (mul binary64 w (sub binary64 unit f)) mid))
 unfolding halved bisected
 bisect-two cov n [] w ws h = absurd (omega arith)
@@ -121,22 +122,22 @@ bisect-two cov n (a ∷ b ∷ more) w ws h =
     let part = a ∷ b ∷ more in
     let l = left-length part in
     let r = right-length part in
-    risk-ext (splitOf cov n part) _ _
+    risk-ext (sidesFactor cov n part) _ _
     (λ f. then-ext _ _ _ _
     (enough (suc (length more)) (length (take (middle part) part)) cov n (take (middle part) part) (mul binary64 w f) ws (omega arith) (le-refl _))
     (λ mid. enough (suc (length more)) (length (drop (middle part) part)) cov n (drop (middle part) part) (mul binary64 w (sub binary64 unit f)) mid (omega arith) (le-refl _)))
 
 module _ (cov : List Float) (n : ℕ) (part : List ℕ) (w : Float) (ws : List Float) (h : 2 ≤ length part) where
   abbrev onward : Risk → Shares
-  onward v = withRisk v (λ f. andThen (bisected cov n (take (middle part) part) (mul binary64 w f) ws)
+  onward v = withRisk v (λ f. withShares (bisected cov n (take (middle part) part) (mul binary64 w f) ws)
       (λ mid. bisected cov n (drop (middle part) part) (mul binary64 w (sub binary64 unit f)) mid))
 
-  pub no-split : (k : Refusal) → splitOf cov n part ≡ risk.Refused k → bisected cov n part w ws ≡ none
+  pub no-split : (k : Refusal) → sidesFactor cov n part ≡ risk.Refused k → bisected cov n part w ws ≡ none
   no-split k e = bisect-two cov n part w ws h ∙ ap onward e
 
-  module _ (f : Float) (e : splitOf cov n part ≡ risk.Of f) (r : Bool) (mid : List Float) (one : told r mid ≡ bisected cov n (take (middle part) part) (mul binary64 w f) ws) where
+  module _ (f : Float) (e : sidesFactor cov n part ≡ risk.Of f) (r : Bool) (mid : List Float) (one : told r mid ≡ bisected cov n (take (middle part) part) (mul binary64 w f) ws) where
     abbrev second : Shares → Shares
-    second s = andThen s (λ m. bisected cov n (drop (middle part) part) (mul binary64 w (sub binary64 unit f)) m)
+    second s = withShares s (λ m. bisected cov n (drop (middle part) part) (mul binary64 w (sub binary64 unit f)) m)
 
     went : bisected cov n part w ws ≡ second (told r mid)
     went = bisect-two cov n part w ws h ∙ ap onward e ∙ ap second (sym one)
@@ -178,12 +179,12 @@ module _ (ws after : List Float) (s : Float) (e : s ≡ sumTo (length ws) (λ k.
 -- ---- the weights
 
 module _ (cov : List Float) (n : ℕ) (order : List ℕ) (r : Bool) (mid : List Float) (e : told r mid ≡ bisected cov n order unit (zeros n)) where
-  pub share-no : r ≡ false → none ≡ weightsOf cov n order
-  unfolding weightsOf told
+  pub share-no : r ≡ false → none ≡ bisectionShares cov n order
+  unfolding bisectionShares told
   share-no h = rw (← e, h)
 
-  pub share-yes : r ≡ true → (after : List Float) → after ≡ normal mid → some after ≡ weightsOf cov n order
-  unfolding weightsOf told
+  pub share-yes : r ≡ true → (after : List Float) → after ≡ normal mid → some after ≡ bisectionShares cov n order
+  unfolding bisectionShares told
   share-yes h after g = rw (← e, h, g)
 
 -- ---- there are as many weights as assets
@@ -197,7 +198,7 @@ long-risk : (k : ℕ) (v : Risk) (f : Float → Shares) → ((x : Float) → Lon
 long-risk k (risk.Refused r) f h = tt
 long-risk k (risk.Of x) f h = h x
 
-long-then : (k : ℕ) (s : Shares) (f : List Float → Shares) → Long k s → ((ws : List Float) → length ws ≡ k → Long k (f ws)) → Long k (andThen s f)
+long-then : (k : ℕ) (s : Shares) (f : List Float → Shares) → Long k s → ((ws : List Float) → length ws ≡ k → Long k (f ws)) → Long k (withShares s f)
 long-then k none f l h = tt
 long-then k (some ws) f l h = h ws l
 
@@ -208,7 +209,7 @@ long-halved (suc d) cov n [] w ws k h = h
 long-halved (suc d) cov n (a ∷ []) w ws k h = length-set ws a w ∙ h
 long-halved (suc d) cov n (a ∷ b ∷ more) w ws k h =
     let part = a ∷ b ∷ more in
-    long-risk k (splitOf cov n part) _
+    long-risk k (sidesFactor cov n part) _
     (λ f.
     long-then k (halved d cov n (take (middle part) part) (mul binary64 w f) ws)
     (λ mid. halved d cov n (drop (middle part) part) (mul binary64 w (sub binary64 unit f)) mid)
@@ -223,12 +224,12 @@ long-normal ws = go (lt pz (sumTo (length ws) (λ k. getD ws k nan)))
     go true = length-tab (length ws) _
     go false = refl
 
-long-weights : (cov : List Float) (n : ℕ) (order : List ℕ) → Long n (weightsOf cov n order)
-unfolding weightsOf bisected
+long-weights : (cov : List Float) (n : ℕ) (order : List ℕ) → Long n (bisectionShares cov n order)
+unfolding bisectionShares bisected
 long-weights cov n order =
     long-then n (bisected cov n order unit (zeros n)) _
     (long-halved (length order) cov n order unit (zeros n) n (length-replicate n pz))
     (λ ws l. long-normal ws ∙ l)
 
-pub weights-length : (cov : List Float) (n : ℕ) (order : List ℕ) (ws : List Float) → weightsOf cov n order ≡ some ws → length ws ≡ n
+pub weights-length : (cov : List Float) (n : ℕ) (order : List ℕ) (ws : List Float) → bisectionShares cov n order ≡ some ws → length ws ≡ n
 weights-length cov n order ws e = subst (Long n) e (long-weights cov n order)

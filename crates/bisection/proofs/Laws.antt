@@ -27,9 +27,10 @@ use Rattle.lent.proofs.Laws.{square-in, drop-replicate}
 use Rattle.lent.proofs.Sizes.{over-cells}
 use Rattle.tree.specs.Rows.{isOrder}
 use Rattle.tree.proofs.Rows.{is-order}
-use Rattle.clusters.specs.Shares.{Shares, some, told, isNone, weightsIn}
+use Rattle.clusters.specs.Shares.{Shares, some, isNone, weightsIn}
+use Rattle.clusters.specs.Inner.{told}
 use Rattle.clusters.specs.Shares as shares
-use Rattle.bisection.specs.Bisection.{weightsOf, callTable, bisectionTable, bisectionOutcome, bisectionAnswer, bisectionWeights}
+use Rattle.bisection.specs.Bisection.{bisectionShares, bisectionGiven, bisectionTable, bisectionOutcome, bisectionAnswer, bisectionWeights}
 use Rattle.bisection.proofs.Halves.{weights-length}
 
 -- ---- what the weights are, where there are some
@@ -55,28 +56,28 @@ take-zeros (suc k) (suc n) h = ap (λ (l : List Float). pz ∷ l) (take-zeros k 
 -- ---- the refusals
 
 abbrev sideTable : List Float → ℕ → List ℕ → List Line
-sideTable cov w order = (isNone (weightsOf cov w order), NoData) ∷ []
+sideTable cov w order = (isNone (bisectionShares cov w order), NoData) ∷ []
 
 module _ (cov : List Float) (rows w : ℕ) (order : List ℕ) (room : ℕ) where
-  staged : bisectionOutcome cov rows w order room ≡ andThen (first (callTable cov rows w order room)) (first (sideTable cov w order))
+  staged : bisectionOutcome cov rows w order room ≡ andThen (first (bisectionGiven cov rows w order room)) (first (sideTable cov w order))
   unfolding bisectionOutcome bisectionTable
-  staged = first-append (callTable cov rows w order room) (sideTable cov w order)
+  staged = first-append (bisectionGiven cov rows w order room) (sideTable cov w order)
 
   pub bisection-accepted : bisectionOutcome cov rows w order room ≡ Done
-      → (isNone (weightsOf cov w order) ≡ false) × (length (weightsIn (weightsOf cov w order)) ≡ w)
+      → (isNone (bisectionShares cov w order) ≡ false) × (length (weightsIn (bisectionShares cov w order)) ≡ w)
   bisection-accepted e =
-      let some : isNone (weightsOf cov w order) ≡ false = none (sideTable cov w order) (both-done _ _ (sym staged ∙ e) .1) .0 in
-      (some, weights-length cov w order _ (none-not (weightsOf cov w order) some))
+      let some : isNone (bisectionShares cov w order) ≡ false = none (sideTable cov w order) (both-done _ _ (sym staged ∙ e) .1) .0 in
+      (some, weights-length cov w order _ (none-not (bisectionShares cov w order) some))
 
-  module _ (said : Outcome) (e : said ≡ first (callTable cov rows w order room)) where
+  module _ (said : Outcome) (e : said ≡ first (bisectionGiven cov rows w order room)) where
     -- what is known where the first stage is done
     pub call-roomy : said ≡ Done → w ≤ room
-    unfolding callTable sizes
-    call-roomy h = ltb-false room w (none (callTable cov rows w order room) (sym e ∙ h) .1 .1 .0)
+    unfolding bisectionGiven sizes
+    call-roomy h = ltb-false room w (none (bisectionGiven cov rows w order room) (sym e ∙ h) .1 .1 .0)
 
     call-order : said ≡ Done → isOrder order w ≡ true
-    unfolding callTable sizes
-    call-order h = not-false (isOrder order w) (none (callTable cov rows w order room) (sym e ∙ h) .1 .1 .1 .1 .0)
+    unfolding bisectionGiven sizes
+    call-order h = not-false (isOrder order w) (none (bisectionGiven cov rows w order room) (sym e ∙ h) .1 .1 .1 .1 .0)
 
     pub call-low : said ≡ Done → (k : ℕ) → k < length order → getD order k 0 < w
     call-low h k l =
@@ -94,7 +95,7 @@ module _ (cov : List Float) (rows w : ℕ) (order : List ℕ) (room : ℕ) where
           let o : bisectionOutcome cov rows w order room ≡ Refused r = staged ∙ then-refused _ _ r (sym e ∙ h) in
           (rw (g, h, o), rw o z)
 
-      module _ (h : said ≡ Done) (r : Bool) (ws : List Float) (t : told r ws ≡ weightsOf cov w order) where
+      module _ (h : said ≡ Done) (r : Bool) (ws : List Float) (t : told r ws ≡ bisectionShares cov w order) where
         side : bisectionOutcome cov rows w order room ≡ first (sideTable cov w order)
         side = staged ∙ then-done _ _ (sym e ∙ h)
 
@@ -110,17 +111,17 @@ module _ (cov : List Float) (rows w : ℕ) (order : List ℕ) (room : ℕ) where
             → (a ≡ bisectionAnswer cov rows w order room) × (out ≡ bisectionWeights cov rows w order room)
         unfolding bisectionAnswer bisectionWeights laid isNone weightsIn
         ends-done a blank q g z f =
-            let s : weightsOf cov w order ≡ some ws = told-some _ r ws t q in
+            let s : bisectionShares cov w order ≡ some ws = told-some _ r ws t q in
             let n : length ws ≡ w = weights-length cov w order ws s in
-            let no : isNone (weightsOf cov w order) ≡ false = rw s in
+            let no : isNone (bisectionShares cov w order) ≡ false = rw s in
             let o : bisectionOutcome cov rows w order room ≡ Done = side ∙ table-pass _ _ _ no ∙ table-end in
             (rw (g, h, o), f ∙ rw (o, s, z, n) (ap (λ (l : List Float). ws ++ l) (drop-replicate w room pz)))
 
 -- ---- where the sizes and the order are right
 
 pub bisection-as-shares : (cov : List Float) (n : ℕ) (order : List ℕ) (room : ℕ) → 1 ≤ n → n ≤ 64 → length cov ≡ n * n → isOrder order n ≡ true → n ≤ room
-    → bisectionOutcome cov n n order room ≡ first ((isNone (weightsOf cov n order), NoData) ∷ [])
-unfolding callTable sizes otherLength
+    → bisectionOutcome cov n n order room ≡ first ((isNone (bisectionShares cov n order), NoData) ∷ [])
+unfolding bisectionGiven sizes otherLength
 bisection-as-shares cov n order room pos wide cells o roomy =
     let a : overLimit n n ≡ false = over-cells n n (omega arith) wide ∙ le-ltb 4096 (n * n) (square-in n wide) in
     let b : not (eqb (length cov) (n * n)) ≡ false = rw (eq-eqb (length cov) (n * n) cells) in
@@ -128,5 +129,5 @@ bisection-as-shares cov n order room pos wide cells o roomy =
     let d : not (eqb n n) ≡ false = rw (eq-eqb n n refl) in
     let f : not (isOrder order n) ≡ false = rw o in
     let g : eqb n 0 ≡ false = ne-eqb n 0 (λ q. omega arith) in
-    let done : first (callTable cov n n order room) ≡ Done = table-pass _ _ _ a ∙ table-pass _ _ _ b ∙ table-pass _ _ _ c ∙ table-pass _ _ _ d ∙ table-pass _ _ _ f ∙ table-pass _ _ _ g ∙ table-end in
+    let done : first (bisectionGiven cov n n order room) ≡ Done = table-pass _ _ _ a ∙ table-pass _ _ _ b ∙ table-pass _ _ _ c ∙ table-pass _ _ _ d ∙ table-pass _ _ _ f ∙ table-pass _ _ _ g ∙ table-end in
     staged cov n n order room ∙ then-done _ _ done

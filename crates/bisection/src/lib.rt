@@ -10,9 +10,11 @@ ghost use Prim.Native.Nat.{ℕ, _<_};
 ghost use lib.ListN.{length, getD, set};
 ghost use lib.Ieee.{nan, binary64, div};
 ghost use Rattle.refusal.specs.Table.{first};
+ghost use Rattle.refusal.specs.declared.Refusal.the-variants.{NoData};
+ghost use Rattle.lent.specs.declared.Answer.the-variants as answer;
 ghost use Rattle.lent.specs.Grid.{zeros, tab, sumTo};
-ghost use Rattle.clusters.specs.Shares.{told};
-ghost use Rattle.bisection.specs.Bisection.{factorOf, middle, splitOf, bisected, normal, weightsOf, callTable, bisectionAnswer, bisectionWeights};
+ghost use Rattle.clusters.specs.Inner.{told};
+ghost use Rattle.bisection.specs.Bisection.{factorOf, middle, sidesFactor, bisected, normal, bisectionShares, bisectionGiven, bisectionAnswer, bisectionWeights};
 
 const EPSILON: f64 = 2.220446049250313e-16;
 
@@ -26,7 +28,7 @@ fn factor(l: f64, r: f64) -> f64
 // The factor of the first half, where both halves have a variance.
 fn split(cov: &[f64], n: usize, part: &[usize], half: usize) -> Risk
     requires { ⌜ half ≡ middle (now part) ⌝ }
-    ensures { λ r. ⌜ r ≡ splitOf (now (cov .entry)) n (now (part .entry)) ⌝ }
+    ensures { λ r. ⌜ r ≡ sidesFactor (now (cov .entry)) n (now (part .entry)) ⌝ }
 {
     let left = clusters::cluster_variance(cov, n, n, &part[..half]);
     let Risk::Of(l) = left else {
@@ -108,7 +110,7 @@ fn normalise(ws: &mut [f64])
 fn share(cov: &[f64], n: usize, order: &[usize], weights: &mut [f64]) -> bool
     requires { ⌜ ((k : ℕ) → k < length (now order) → getD (now order) k 0 < n) ⌝ }
     requires { ⌜ now weights ≡ zeros n ⌝ }
-    ensures { λ r. ⌜ told r (now (weights .exit)) ≡ weightsOf (now (cov .entry)) n (now (order .entry)) ⌝ }
+    ensures { λ r. ⌜ told r (now (weights .exit)) ≡ bisectionShares (now (cov .entry)) n (now (order .entry)) ⌝ }
 {
     if !bisect(cov, n, order, 1.0, weights) {
         return false;
@@ -119,7 +121,7 @@ fn share(cov: &[f64], n: usize, order: &[usize], weights: &mut [f64]) -> bool
 
 // The refusal, if there is one, that comes before anything is shared out.
 fn judge(cov: &[f64], rows: usize, columns: usize, order: &[usize], room: usize) -> Outcome
-    ensures { λ r. ⌜ r ≡ first (callTable (now (cov .entry)) rows columns (now (order .entry)) room) ⌝ }
+    ensures { λ r. ⌜ r ≡ first (bisectionGiven (now (cov .entry)) rows columns (now (order .entry)) room) ⌝ }
 {
     let said = lent::sized(cov.len(), rows, columns);
     let Outcome::Done = said else {
@@ -129,6 +131,15 @@ fn judge(cov: &[f64], rows: usize, columns: usize, order: &[usize], room: usize)
     let rest = refusal::refuse(!tree::is_order(order, columns), Refusal::NoTree, rest);
     let rest = refusal::refuse(rows != columns, Refusal::DimensionMismatch, rest);
     refusal::refuse(room < columns, Refusal::ShortBuffer, rest)
+}
+
+// A side's refusal leaves nothing of the weights given out before it.
+fn refused(weights: &mut [f64]) -> Answer
+    ensures { λ r. ⌜ r ≡ answer.Refused NoData ⌝ }
+    ensures { λ _. ⌜ now (weights .exit) ≡ zeros (length (now (weights .entry))) ⌝ }
+{
+    lent::clear(weights);
+    Answer::Refused(Refusal::NoData)
 }
 
 // The weights of the assets, in the assets' own order, shared out down a given leaf order.
@@ -148,8 +159,7 @@ pub fn recursive_bisection_min_var(
         return lent::answered(said, 1, columns);
     };
     if !share(cov, columns, order, &mut out[..columns]) {
-        lent::clear(out);
-        return Answer::Refused(Refusal::NoData);
+        return refused(out);
     }
     lent::answered(said, 1, columns)
 }

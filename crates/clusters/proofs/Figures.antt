@@ -15,7 +15,7 @@ use Rattle.lent.specs.Grid.{tab, sumTo, sumOn, sumRows, anyTo}
 use Rattle.lent.specs.Lent.{overLimit, otherLength, laid, answerOf}
 use Rattle.lent.specs.declared.Answer.{Answer}
 use Rattle.lent.specs.declared.Answer.the-variants as answer
-use Rattle.clusters.specs.Clusters.{recip, recipSum, shares, term, varianceOf, expectation, ratio, ratioOf, outside, anyLow, riskTable, sizeTable, sharesOutcome, sharesAnswer, sharesLaid, varianceOutcome, varianceAnswer, sharpeOutcome, sharpeAnswer}
+use Rattle.clusters.specs.Clusters.{recip, recipSum, shares, term, varianceOf, expectation, ratio, ratioOf, outside, anyListedLow, riskTable, sizeTable, sharesOutcome, sharesAnswer, sharesLaid, varianceOutcome, varianceAnswer, sharpeOutcome, sharpeAnswer}
 use Rattle.clusters.specs.declared.Risk.{Risk}
 use Rattle.clusters.specs.declared.Risk.the-variants as risk
 
@@ -59,15 +59,21 @@ sharpe expected cov rows w assets = of-risk (sharpeAnswer (doubles expected) (do
 abbrev p0 : ℕ
 p0 = 0x0
 
--- 1/4, 3/4, 1, 2, 3, 4, 5
+-- 1/4, 1/2, 3/4, 1, 1 1/2, 2, 3, 4, 5
 abbrev quarter : ℕ
 quarter = 0x3fd0_0000_0000_0000
+
+abbrev half : ℕ
+half = 0x3fe0_0000_0000_0000
 
 abbrev most : ℕ
 most = 0x3fe8_0000_0000_0000
 
 abbrev one : ℕ
 one = 0x3ff0_0000_0000_0000
+
+abbrev middling : ℕ
+middling = 0x3ff8_0000_0000_0000
 
 abbrev two : ℕ
 two = 0x4000_0000_0000_0000
@@ -117,6 +123,8 @@ figure-list =
     ∷ same (variance (diagonal one three) 2 2 both) (0 ∷ most ∷ [])
     -- both triangles are read: (1 + 2 + 5 + 1) / 4
     ∷ same (variance (one ∷ two ∷ five ∷ one ∷ []) 2 2 both) (0 ∷ 0x4002_0000_0000_0000 ∷ [])
+    -- three correlated assets: (w_i·cov_ij)·w_j, where w_i·(cov_ij·w_j) and (w_i·w_j)·cov_ij would end in 9
+    ∷ same (variance (one ∷ quarter ∷ middling ∷ quarter ∷ two ∷ half ∷ middling ∷ half ∷ three ∷ []) 3 3 (0 ∷ 1 ∷ 2 ∷ [])) (0 ∷ 0x3fee_f130_a941_9638 ∷ [])
     -- a NaN covariance gives 0
     ∷ same (variance (one ∷ no ∷ no ∷ one ∷ []) 2 2 both) (0 ∷ p0 ∷ [])
     ∷ same (variance (one ∷ no ∷ no ∷ one ∷ []) 2 2 (0 ∷ 2 ∷ [])) (14 ∷ [])
@@ -133,5 +141,5 @@ figure-list =
     ∷ []
 
 pub figures : all figure-list ≡ true
-unfolding recip recipSum shares term varianceOf expectation ratio ratioOf outside anyLow riskTable sizeTable sharesOutcome sharesAnswer sharesLaid varianceOutcome varianceAnswer sharpeOutcome sharpeAnswer first tab sumTo sumOn sumRows anyTo overLimit otherLength laid answerOf maxOf root isqrt lt le isNan add sum mul div round units odd trailingZeros size span climb ofFields ofBits toBits
+unfolding recip recipSum shares term varianceOf expectation ratio ratioOf outside anyListedLow riskTable sizeTable sharesOutcome sharesAnswer sharesLaid varianceOutcome varianceAnswer sharpeOutcome sharpeAnswer first tab sumTo sumOn sumRows anyTo overLimit otherLength laid answerOf maxOf root isqrt lt le isNan add sum mul div round units odd trailingZeros size span climb ofFields ofBits toBits
 figures = refl

@@ -11,19 +11,27 @@ use lib.Ieee.{Float, nan, binary64, mul, le}
 use Rattle.arithmetic.specs.Constants.{pz}
 use Rattle.arithmetic.specs.Arithmetic.{maxOf}
 use Rattle.refusal.specs.Table.{Line, first, orElse, andThen}
+use Rattle.refusal.specs.Telling.{tells}
 use Rattle.refusal.specs.declared.Refusal.{Refusal}
 use Rattle.refusal.specs.declared.Refusal.the-variants.{NoData, DimensionMismatch, ShortBuffer}
 use Rattle.refusal.specs.declared.Outcome.{Outcome}
 use Rattle.refusal.specs.declared.Outcome.the-variants.{Done, Refused}
-use Rattle.refusal.proofs.Tables.{table, table-end, table-pass, AllNo, none, both-done, first-append}
+use Rattle.refusal.proofs.Tables.{table, table-end, table-pass, said-line, said-last, AllNo, none, both-done, first-append}
 use Rattle.lent.specs.Grid.{zeros, over, sumTo, sumRows}
 use Rattle.lent.specs.Lent.{answerOf}
 use Rattle.lent.specs.declared.Answer.{Answer}
 use Rattle.lent.proofs.Laws.{cell-in, length-tab, getD-over}
 use Rattle.lent.proofs.Sums.{sum-ext, sums-ext, any-no}
 use Rattle.lent.proofs.Sizes.{same-length, laid-done, laid-refused}
-use Rattle.clusters.specs.Clusters.{nth, shares, term, varianceOf, expectation, ratio, ratioOf, outside, anyLow, recipSum, riskTable, sizeTable, notSquare, sharesOutcome, sharesAnswer, sharesLaid, varianceOutcome, varianceAnswer, sharpeOutcome, sharpeAnswer, Listed}
+use Rattle.clusters.specs.Clusters.{nth, shares, term, varianceOf, expectation, ratio, ratioOf, outside, anyListedLow, recipSum, riskTable, sizeTable, notSquare, sharesOutcome, sharesAnswer, sharesLaid, varianceOutcome, varianceAnswer, sharpeOutcome, sharpeAnswer, riskOf, riskTells}
+use Rattle.clusters.specs.Inner.{Listed}
 use Rattle.clusters.specs.declared.Risk.the-variants as risk
+
+-- ---- what an answer tells
+
+pub risk-tells : (o : Outcome) (v : Float) → riskTells (riskOf o v) ≡ tells o v
+risk-tells Done v = refl
+risk-tells (Refused r) v = refl
 
 -- ---- assets of a square matrix
 
@@ -87,10 +95,11 @@ square-done rows w rest fits e d = same-number rows w (passed (not (eqb rows w))
 between : (a b c : List Line) → first (a ++ (b ++ c)) ≡ andThen (first a) (andThen (first b) (first c))
 between a b c = first-append a (b ++ c) ∙ ap (andThen (first a)) (first-append b c)
 
-pub inside : (cov : List Float) (n : ℕ) (assets : List ℕ) → outside n assets ≡ false
-    → first (riskTable cov n assets) ≡ orElse (anyLow cov n assets) NoData (orElse (le (recipSum cov n assets) pz) NoData Done)
+pub inside : (cov : List Float) (n : ℕ) (assets : List ℕ) (low : Bool) (s : Float) (rest said : Outcome) → outside n assets ≡ false
+    → s ≡ recipSum cov n assets → rest ≡ orElse (le s pz) NoData Done → low ≡ anyListedLow cov n assets → said ≡ orElse low NoData rest → said ≡ first (riskTable cov n assets)
 unfolding riskTable
-inside cov n assets e = table-pass _ _ _ e ∙ simp (table, table-end)
+inside cov n assets low s rest said e a b l h =
+    said-line _ _ _ _ _ _ l (said-last _ _ _ _ (ap (λ (x : Float). le x pz) a) b) h ∙ sym (table-pass _ _ _ e)
 
 module _ (cov : List Float) (rows w : ℕ) (assets : List ℕ) where
   pub sized : first (sizeTable cov rows w assets) ≡ Done → (length cov ≡ rows * w) × (length assets ≤ 64)

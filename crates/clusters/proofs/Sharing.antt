@@ -14,8 +14,9 @@ use Rattle.refusal.specs.declared.Refusal.the-variants.{DimensionMismatch}
 use Rattle.refusal.specs.declared.Outcome.{Outcome}
 use Rattle.refusal.specs.declared.Outcome.the-variants.{Done, Refused}
 use Rattle.refusal.proofs.Tables.{table, table-pass, first-append}
-use Rattle.clusters.specs.Clusters.{varianceOf, riskTable, sizeTable, notSquare, sharesOutcome, varianceOutcome, varianceAnswer, sharpeOutcome, riskOf, Listed}
-use Rattle.clusters.specs.Shares.{none, some, told, isNone, weightsIn}
+use Rattle.clusters.specs.Clusters.{varianceOf, riskTable, sizeTable, notSquare, sharesOutcome, varianceOutcome, varianceAnswer, sharpeOutcome, riskOf}
+use Rattle.clusters.specs.Inner.{Listed, told}
+use Rattle.clusters.specs.Shares.{none, some, isNone, weightsIn}
 use Rattle.clusters.specs.declared.Risk.the-variants as risk
 use Rattle.clusters.proofs.Laws.{variance-accepted}
 

@@ -1,6 +1,5 @@
 -- Document 01, "Sharing out": the risk of a list of assets, under a covariance of n columns. Definitions only.
-use Prim.Native.Nat.{ℕ, _<_, _≤_, _*_}
-use mathlib.Core.Path.{_≡_}
+use Prim.Native.Nat.{ℕ}
 use mathlib.Core.Bool.{Bool, not, cond}
 use mathlib.Core.List.{List, [], _∷_, _++_}
 use lib.Dec.{ltb, leb, eqb}
@@ -10,6 +9,7 @@ use Rattle.arithmetic.specs.Constants.{pz, unit}
 use Rattle.arithmetic.specs.Arithmetic.{maxOf}
 use Rattle.arithmetic.specs.Root.{root}
 use Rattle.refusal.specs.Table.{Line, first}
+use Rattle.refusal.specs.Telling.{Telling, accepts, refuses}
 use Rattle.refusal.specs.declared.Refusal.the-variants.{NoData, DimensionMismatch, OverLimit, SliceLength, ShortBuffer, NoTree}
 use Rattle.refusal.specs.declared.Outcome.{Outcome}
 use Rattle.refusal.specs.declared.Outcome.the-variants.{Done, Refused}
@@ -66,14 +66,14 @@ unfoldable pub outside : ℕ → List ℕ → Bool
 outside n assets = anyTo (length assets) (λ k. leb n (nth assets k))
 
 -- 1: a variance ≤ 0 (a NaN variance isn't)
-unfoldable pub anyLow : List Float → ℕ → List ℕ → Bool
-anyLow cov n assets = anyTo (length assets) (λ k. le (varianceAt cov n (nth assets k)) pz)
+unfoldable pub anyListedLow : List Float → ℕ → List ℕ → Bool
+anyListedLow cov n assets = anyTo (length assets) (λ k. le (varianceAt cov n (nth assets k)) pz)
 
 -- "then 14; then as in the allocators": a variance ≤ 0 is 1, reciprocals that sum to ≤ 0 are 1. "An empty cluster is 1": its reciprocals sum to +0
 unfoldable pub riskTable : List Float → ℕ → List ℕ → List Line
-unfolding outside anyLow recipSum
+unfolding outside anyListedLow recipSum
 riskTable cov n assets =
-    (outside n assets, NoTree) ∷ (anyLow cov n assets, NoData) ∷ (le (recipSum cov n assets) pz, NoData) ∷ []
+    (outside n assets, NoTree) ∷ (anyListedLow cov n assets, NoData) ∷ (le (recipSum cov n assets) pz, NoData) ∷ []
 
 -- 9: the covariance, or a list of more than 64 assets; 10
 unfoldable pub sizeTable : List Float → ℕ → ℕ → List ℕ → List Line
@@ -103,6 +103,11 @@ abbrev pub riskOf : Outcome → Float → Risk
 riskOf Done x = risk.Of x
 riskOf (Refused r) x = risk.Refused r
 
+-- 0 and the number, or the refusal's number and values
+abbrev pub riskTells : Risk → Telling Float
+riskTells (risk.Of x) = accepts x
+riskTells (risk.Refused r) = refuses r
+
 unfoldable pub varianceOutcome : List Float → ℕ → ℕ → List ℕ → Outcome
 unfolding sizeTable riskTable
 varianceOutcome cov rows w assets = first (sizeTable cov rows w assets ++ (notSquare rows w ∷ riskTable cov w assets))
@@ -121,9 +126,3 @@ sharpeOutcome expected cov rows w assets =
 unfoldable pub sharpeAnswer : List Float → List Float → ℕ → ℕ → List ℕ → Risk
 unfolding sharpeOutcome ratioOf
 sharpeAnswer expected cov rows w assets = riskOf (sharpeOutcome expected cov rows w assets) (ratioOf expected cov w assets)
-
--- ---- what the inner functions take: assets of a square matrix of n columns
-pub record Listed (cov : List Float) (n : ℕ) (assets : List ℕ) : Type 0 where
-  pub cells : length cov ≡ n * n
-  pub few : length assets ≤ most-assets
-  pub each : (k : ℕ) → k < length assets → nth assets k < n

@@ -12,7 +12,9 @@ ghost use Rattle.arithmetic.specs.Arithmetic.{maxOf};
 ghost use Rattle.refusal.specs.Table.{first, andThen};
 ghost use Rattle.refusal.specs.declared.Outcome.the-variants.{Done};
 ghost use Rattle.lent.specs.Grid.{cell, over, sumTo, sumOn, sumRows};
-ghost use Rattle.clusters.specs.Clusters.{nth, varianceAt, recipSum, shares, term, ratio, ratioOf, varianceOf, outside, anyLow, riskTable, sizeTable, sharesAnswer, sharesLaid, varianceAnswer, sharpeAnswer, Listed};
+ghost use Rattle.clusters.specs.Clusters.{nth, varianceAt, recipSum, shares, term, ratio, ratioOf, varianceOf};
+ghost use Rattle.clusters.specs.Clusters.{outside, anyListedLow, riskTable, sizeTable, sharesAnswer, sharesLaid, varianceAnswer, sharpeAnswer};
+ghost use Rattle.clusters.specs.Inner.{Listed};
 
 // A variance or a ratio, or the refusal.
 pub enum Risk {
@@ -55,7 +57,7 @@ fn own_variance(cov: &[f64], n: usize, assets: &[usize], k: usize) -> f64
 // A variance is 0 or below; a NaN isn't.
 fn any_low(cov: &[f64], n: usize, assets: &[usize]) -> bool
     requires { ⌜ Listed (now cov) n (now assets) ⌝ }
-    ensures { λ r. ⌜ r ≡ anyLow (now (cov .entry)) n (now (assets .entry)) ⌝ }
+    ensures { λ r. ⌜ r ≡ anyListedLow (now (cov .entry)) n (now (assets .entry)) ⌝ }
 {
     let mut k = 0;
     while k < assets.len() {
@@ -127,7 +129,8 @@ fn judge_risk(cov: &[f64], n: usize, assets: &[usize]) -> Outcome
 // The refusal, if there is one: of the sizes, of what comes between (11, the 3s), of the risk.
 fn judge(cov: &[f64], rows: usize, columns: usize, assets: &[usize], between: Outcome) -> Outcome
     requires { ⌜ (between ≡ Done → rows ≡ columns) ⌝ }
-    ensures { λ r. ⌜ r ≡ andThen (first (sizeTable (now (cov .entry)) rows columns (now (assets .entry)))) (andThen between (first (riskTable (now (cov .entry)) columns (now (assets .entry))))) ⌝ }
+    ensures { λ r. ⌜ r ≡ andThen (first (sizeTable (now (cov .entry)) rows columns (now (assets .entry))))
+        (andThen between (first (riskTable (now (cov .entry)) columns (now (assets .entry))))) ⌝ }
 {
     let said = judge_sizes(cov, rows, columns, assets);
     let Outcome::Done = said else {
@@ -179,6 +182,13 @@ fn add_row(cov: &[f64], n: usize, assets: &[usize], w: &[f64; 64], i: usize, v: 
     s
 }
 
+// Max with 0, so that NaN gives 0.
+fn at_least_zero(v: f64) -> f64
+    ensures { λ r. ⌜ r ≡ maxOf v pz ⌝ }
+{
+    arithmetic::max(v, 0.0)
+}
+
 // The variance under the weights w.
 fn weighted_variance(cov: &[f64], n: usize, assets: &[usize], w: &[f64; 64]) -> f64
     requires { ⌜ Listed (now cov) n (now assets) ⌝ }
@@ -190,7 +200,7 @@ fn weighted_variance(cov: &[f64], n: usize, assets: &[usize], w: &[f64; 64]) -> 
         v = add_row(cov, n, assets, w, i, v);
         i += 1;
     }
-    arithmetic::max(v, 0.0)
+    at_least_zero(v)
 }
 
 fn variance(cov: &[f64], n: usize, assets: &[usize]) -> f64

@@ -12,7 +12,7 @@ use lib.ListN.{length, getD, set, take, drop, length-append, length-set, length-
 use lib.Seq.{drop-cons, take-suc-set, drop-set-lt, set-getD, append-snoc, take-all, take-at, drop-at, set-at}
 use lib.Ieee.{Float, nan, inf, fin, binary64, fits, toBits, lt, eq, ne, isNan, up, down, size}
 use lib.Ieee.Bits.{toBits-lt}
-use Rattle.ordering.specs.Order.{minus, before, insert, insertAll, sorted, earlier, later}
+use Rattle.ordering.specs.Order.{hasMinus, before, insert, insertAll, sorted, earlier, later}
 
 -- ---- the sign's bit
 
@@ -37,8 +37,8 @@ digits n = n / 2 ^ (size n - 53)
 abbrev unitsAt : ℕ → ℤ → ℕ
 unitsAt m e = m * up e * 2 ^ 1074 / down e
 
-pub sign-bit : (x : Float) → T (fits binary64 x) → isNan x ≡ false → leb (2 ^ 63) (toBits binary64 x) ≡ minus x
-unfolding toBits minus isNan
+pub sign-bit : (x : Float) → T (fits binary64 x) → isNan x ≡ false → leb (2 ^ 63) (toBits binary64 x) ≡ hasMinus x
+unfolding toBits hasMinus isNan
 sign-bit nan f n = absurd (true≢false n)
 sign-bit (inf true) f n = refl
 sign-bit (inf false) f n = refl
@@ -99,7 +99,7 @@ pub before-less : (x y : Float) → lt x y ≡ true → true ≡ before x y
 unfolding before
 before-less x y h = rw (lt-left x y h, h) (sym (or-true (isNan y)))
 
-pub before-equal : (x y : Float) → lt x y ≡ false → eq x y ≡ true → before x y ≡ (minus x && not (minus y))
+pub before-equal : (x y : Float) → lt x y ≡ false → eq x y ≡ true → before x y ≡ (hasMinus x && not (hasMinus y))
 unfolding before
 before-equal x y h e = rw (eq-left x y e, eq-right x y e, h, e)
 

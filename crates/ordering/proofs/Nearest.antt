@@ -20,7 +20,9 @@ use lib.Ieee.Back.{round-whole}
 use lib.Ieee.Nearest.{closest, closest-mono}
 use lib.Ieee.Order.{round-mono}
 use lib.ListN.{length, getD}
-use Rattle.ordering.specs.Nearest.{Rounded, wholeOf, place, quantile, Part, Short}
+use Rattle.ordering.specs.Nearest.{Rounded, wholeOf, place, quantile}
+use Rattle.ordering.specs.Inner.{Part, Short}
+use Rattle.arithmetic.specs.Arithmetic.{countOf}
 use Rattle.ordering.specs.Order.{sorted}
 use Rattle.ordering.proofs.Rank.{same-ltb, no-lt}
 
@@ -381,7 +383,7 @@ product q n s p = times q (round binary64 false n 1) n s (round-whole binary64 f
 
 -- the place lies in the list
 pub place-in : (q : Float) (n : ℕ) → 0 < n → n ≤ 2 ^ 52 → Part q → place q n < n
-unfolding place
+unfolding place countOf
 place-in q n h s p = let b = product q (n - 1) (omega arith) p .1 in omega arith
 
 -- ---- 1 − q, for a q from 0 to 1

@@ -9,6 +9,7 @@ use lib.Dec.{T}
 use lib.ListN.{length, replicate}
 use lib.Ieee.{Float, binary64, sub, le}
 use Rattle.arithmetic.specs.Constants.{pz, unit}
+use Rattle.refusal.specs.Telling.{tells}
 use Rattle.refusal.specs.declared.Refusal.{Refusal}
 use Rattle.refusal.specs.declared.Refusal.the-variants.{OverLimit}
 use Rattle.refusal.specs.declared.Outcome.{Outcome}
@@ -18,11 +19,18 @@ use Rattle.lent.specs.Grid.{zeros}
 use Rattle.lent.specs.Lent.{laid}
 use Rattle.lent.proofs.Sizes.{laid-refused}
 use Rattle.ordering.specs.Order.{insert, insertAll, sorted}
-use Rattle.ordering.specs.Nearest.{Part, quantile, noPart, partTable, partOutcome, quantileAnswer, quantileLaid, sortOutcome, sortLaid}
+use Rattle.ordering.specs.Nearest.{quantile, noPart, partTable, partOutcome, entryOf, entryTells, quantileAnswer, quantileLaid, sortOutcome, sortLaid}
+use Rattle.ordering.specs.Inner.{Part}
 use Rattle.ordering.specs.declared.Entry.{Entry}
 use Rattle.ordering.specs.declared.Entry.the-variants as entry
 use Rattle.ordering.proofs.Laws.{length-insert}
 use Rattle.ordering.proofs.Nearest.{rest-part}
+
+-- ---- what an answer tells
+
+pub entry-tells : (o : Outcome) (v : Float) → entryTells (entryOf o v) ≡ tells o v
+entry-tells Done v = refl
+entry-tells (Refused r) v = refl
 
 -- ---- a part
 

@@ -12,7 +12,7 @@ use lib.IntN.{ℤ, pos, negsuc}
 use lib.Ieee.{Float, nan, inf, fin, binary64, fits, toBits, ofBits, lt, eq, isNan, up, down, size}
 use lib.Ieee.Fits.{down-pos, and-l, and-r}
 use lib.Ieee.Bits.{ofBits-toBits}
-use Rattle.ordering.specs.Order.{minus, before}
+use Rattle.ordering.specs.Order.{hasMinus, before}
 use Rattle.ordering.specs.Meaning.{Double}
 
 -- a finite double's size, in units of 2 ^ -1074
@@ -199,7 +199,7 @@ zeros-too zero (suc b) = rw (lt-ltb 0 (0 + suc b) (omega arith))
 zeros-too (suc a) b = rw (lt-ltb 0 (suc a + b) (omega arith))
 
 pub before-rank : (x y : Float) → Double x → Double y → before x y ≡ ltb (rank x) (rank y)
-unfolding before rank lt eq minus isNan
+unfolding before rank lt eq hasMinus isNan
 before-rank nan y f g = sym (le-ltb (rank nan) (rank y) (most y g))
 before-rank (inf true) nan f g = refl
 before-rank (inf false) nan f g = refl

@@ -9,7 +9,7 @@ use borrow.Author.Tests.{eq-eqb, eqb-true}
 use lib.Dec.{eqb}
 use lib.Ieee.{Float, binary64, toBits}
 use Rattle.ordering.specs.Order.{before, insert, insertAll, sorted}
-use Rattle.ordering.specs.Meaning.{Each, Double, Ordered, count, Same}
+use Rattle.ordering.specs.Meaning.{Each, Double, Ordered, countBits, Same}
 use Rattle.ordering.proofs.Rank.{rank, by-bits, rank-one, not-before, is-before, no-before}
 
 -- ---- what holds of every entry holds after an insertion
@@ -63,19 +63,19 @@ one b x = cond (eqb (toBits binary64 x) b) 1 0
 swap : (a b c : ℕ) → a + (b + c) ≡ b + (a + c)
 swap a b c = omega arith
 
-count-insert : (b : ℕ) (x : Float) (l : List Float) → count b (insert x l) ≡ one b x + count b l
-unfolding insert count one
+count-insert : (b : ℕ) (x : Float) (l : List Float) → countBits b (insert x l) ≡ one b x + countBits b l
+unfolding insert countBits one
 count-insert b x [] = refl
 count-insert b x (y ∷ l) = go (before x y) (λ z. count-insert b z l)
   where
-    go : (t : Bool) → ((z : Float) → count b (insert z l) ≡ one b z + count b l) → one b (cond t x y) + count b (insert (cond t y x) l) ≡ one b x + (one b y + count b l)
+    go : (t : Bool) → ((z : Float) → countBits b (insert z l) ≡ one b z + countBits b l) → one b (cond t x y) + countBits b (insert (cond t y x) l) ≡ one b x + (one b y + countBits b l)
     go true ih = ap (λ (n : ℕ). one b x + n) (ih y)
-    go false ih = ap (λ (n : ℕ). one b y + n) (ih x) ∙ swap (one b y) (one b x) (count b l)
+    go false ih = ap (λ (n : ℕ). one b y + n) (ih x) ∙ swap (one b y) (one b x) (countBits b l)
 
-count-all : (b : ℕ) (d l : List Float) → count b (insertAll d l) ≡ count b d + count b l
-unfolding insertAll count one
+count-all : (b : ℕ) (d l : List Float) → countBits b (insertAll d l) ≡ countBits b d + countBits b l
+unfolding insertAll countBits one
 count-all b d [] = omega arith
-count-all b d (x ∷ l) = count-all b (insert x d) l ∙ ap (λ (n : ℕ). n + count b l) (count-insert b x d) ∙ regroup (one b x) (count b d) (count b l)
+count-all b d (x ∷ l) = count-all b (insert x d) l ∙ ap (λ (n : ℕ). n + countBits b l) (count-insert b x d) ∙ regroup (one b x) (countBits b d) (countBits b l)
   where
     regroup : (a c e : ℕ) → a + c + e ≡ c + (a + e)
     regroup a c e = omega arith
@@ -91,25 +91,25 @@ unfolding sorted
 sorted-ordered l p = ordered-all [] l tt p tt
 
 pub sorted-same : (l : List Float) → Same (sorted l) l
-unfolding sorted count
-sorted-same l b = count-all b [] l ∙ zero-plus (count b l)
+unfolding sorted countBits
+sorted-same l b = count-all b [] l ∙ zero-plus (countBits b l)
   where
     zero-plus : (n : ℕ) → 0 + n ≡ n
     zero-plus n = omega arith
 
 -- ---- two lists in order with the same entries
 
-own : (x : Float) (l : List Float) → 0 < count (toBits binary64 x) (x ∷ l)
-unfolding count
+own : (x : Float) (l : List Float) → 0 < countBits (toBits binary64 x) (x ∷ l)
+unfolding countBits
 own x l = rw (eq-eqb (toBits binary64 x) (toBits binary64 x) refl) (omega arith)
 
 -- an entry with given bits is found, with what is known of every entry
-found : (P : Float → Type 0) (x : Float) (l : List Float) → Double x → Each Double l → Each P l → 0 < count (toBits binary64 x) l → P x
-unfolding count
+found : (P : Float → Type 0) (x : Float) (l : List Float) → Double x → Each Double l → Each P l → 0 < countBits (toBits binary64 x) l → P x
+unfolding countBits
 found P x [] f p q h = absurd (omega arith)
 found P x (z ∷ l) f p q h = go (eqb (toBits binary64 z) (toBits binary64 x)) (found P x l f (p .1) (q .1)) refl h
   where
-    go : (b : Bool) → (0 < count (toBits binary64 x) l → P x) → eqb (toBits binary64 z) (toBits binary64 x) ≡ b → 0 < cond b 1 0 + count (toBits binary64 x) l → P x
+    go : (b : Bool) → (0 < countBits (toBits binary64 x) l → P x) → eqb (toBits binary64 z) (toBits binary64 x) ≡ b → 0 < cond b 1 0 + countBits (toBits binary64 x) l → P x
     go true ih e k = subst P (by-bits z x (p .0) f (eqb-true (toBits binary64 z) (toBits binary64 x) e)) (q .0)
     go false ih e k = ih (omega arith)
 
@@ -120,17 +120,17 @@ no-self : (x : Float) → Double x → before x x ≡ false
 no-self x f = no-before x x f f (le-refl (rank x))
 
 pub ordered-one : (a b : List Float) → Each Double a → Each Double b → Ordered a → Ordered b → Same a b → a ≡ b
-unfolding count
+unfolding countBits
 ordered-one [] [] p q o r s = refl
 ordered-one [] (y ∷ b) p q o r s = absurd (let h = own y b in let e = s (toBits binary64 y) in omega arith)
 ordered-one (x ∷ a) [] p q o r s = absurd (let h = own x a in let e = s (toBits binary64 x) in omega arith)
 ordered-one (x ∷ a) (y ∷ b) p q o r s =
-    let hx : 0 < count (toBits binary64 x) (y ∷ b) = subst (λ (n : ℕ). 0 < n) (s (toBits binary64 x)) (own x a) in
-    let hy : 0 < count (toBits binary64 y) (x ∷ a) = subst (λ (n : ℕ). 0 < n) (sym (s (toBits binary64 y))) (own y b) in
+    let hx : 0 < countBits (toBits binary64 x) (y ∷ b) = subst (λ (n : ℕ). 0 < n) (s (toBits binary64 x)) (own x a) in
+    let hy : 0 < countBits (toBits binary64 y) (x ∷ a) = subst (λ (n : ℕ). 0 < n) (sym (s (toBits binary64 y))) (own y b) in
     let bx : before x y ≡ false = found (λ z. before z y ≡ false) x (y ∷ b) (p .0) q (no-self y (q .0), r .0) hx in
     let by : before y x ≡ false = found (λ z. before z x ≡ false) y (x ∷ a) (q .0) p (no-self x (p .0), o .0) hy in
     let e : x ≡ y = rank-one x y (p .0) (q .0) (le-antisymm (not-before y x (q .0) (p .0) by) (not-before x y (p .0) (q .0) bx)) in
-    let t : a ≡ b = ordered-one a b (p .1) (q .1) (o .1) (r .1) (λ k. cancel (cond (eqb (toBits binary64 x) k) 1 0) (count k a) (count k b) (s k ∙ ap (λ (z : Float). cond (eqb (toBits binary64 z) k) 1 0 + count k b) (sym e))) in
+    let t : a ≡ b = ordered-one a b (p .1) (q .1) (o .1) (r .1) (λ k. cancel (cond (eqb (toBits binary64 x) k) 1 0) (countBits k a) (countBits k b) (s k ∙ ap (λ (z : Float). cond (eqb (toBits binary64 z) k) 1 0 + countBits k b) (sym e))) in
     cc
 
 -- so no second list fits

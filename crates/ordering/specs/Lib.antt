@@ -1,4 +1,4 @@
 pub mod Order
-pub mod Merge
+pub mod Inner
 pub mod Meaning
 pub mod Nearest

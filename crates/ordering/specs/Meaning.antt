@@ -22,10 +22,10 @@ Ordered [] = Unit
 Ordered (x ∷ l) = Each (λ y. before y x ≡ false) l × Ordered l
 
 -- how many entries have the bits b
-unfoldable pub count : ℕ → List Float → ℕ
-count b [] = 0
-count b (x ∷ l) = cond (eqb (toBits binary64 x) b) 1 0 + count b l
+unfoldable pub countBits : ℕ → List Float → ℕ
+countBits b [] = 0
+countBits b (x ∷ l) = cond (eqb (toBits binary64 x) b) 1 0 + countBits b l
 
 -- the same entries, each as often
 abbrev pub Same : List Float → List Float → Type 0
-Same a l = (b : ℕ) → count b a ≡ count b l
+Same a l = (b : ℕ) → countBits b a ≡ countBits b l

@@ -1,16 +1,17 @@
 -- Document 02, request 1, the Nearest rule: which entry of an ordered list stands at the part q of its length. Definitions only.
 use Prim.Native.Nat.{ℕ, _+_, _-_, _*_, _%_, _≤_}
 use mathlib.Core.Path.{_≡_}
-use mathlib.Core.Bool.{Bool, true, false, not, _&&_, cond}
+use mathlib.Core.Bool.{Bool, not, _&&_, cond}
 use mathlib.Core.List.{List, [], _∷_}
 use mathlib.Core.Logic.{_⊎_}
-use lib.Dec.{T, ltb}
-use lib.IntN.{pos}
+use lib.Dec.{ltb}
 use lib.ListN.{length, getD}
-use lib.Ieee.{Float, nan, inf, fin, binary64, ofInt, mul, lt, le, up, down}
+use lib.Ieee.{Float, nan, inf, fin, binary64, mul, le, up, down}
 use lib.Ieee.Nearest.{closest}
 use Rattle.arithmetic.specs.Constants.{pz, unit}
+use Rattle.arithmetic.specs.Arithmetic.{countOf}
 use Rattle.refusal.specs.Table.{Line, first}
+use Rattle.refusal.specs.Telling.{Telling, accepts, refuses}
 use Rattle.refusal.specs.declared.Refusal.the-variants.{OverLimit, ConfidenceOutOfRange}
 use Rattle.refusal.specs.declared.Outcome.{Outcome}
 use Rattle.refusal.specs.declared.Outcome.the-variants.{Done, Refused}
@@ -33,22 +34,12 @@ wholeOf (fin s m e) = cond s 0 (closest (m * up e) (down e))
 
 -- "index q·(list length − 1) worked out in double, rounded to the nearest whole"
 unfoldable pub place : Float → ℕ → ℕ
-place q n = wholeOf (mul binary64 q (ofInt binary64 (pos (n - 1))))
+place q n = wholeOf (mul binary64 q (countOf (n - 1)))
 
 -- "in the list sorted ascending with −0 before +0 and every NaN last"; 0 of no entries, as in the source
 unfoldable pub quantile : Float → List Float → Float
 quantile q [] = pz
 quantile q (x ∷ l) = getD (sorted (x ∷ l)) (place q (length (x ∷ l))) nan
-
--- from 0 to 1
-pub record Part (q : Float) : Type 0 where
-  pub low : T (le pz q)
-  pub high : T (le q unit)
-
--- above -1 and below 2^52
-pub record Short (x : Float) : Type 0 where
-  pub above : T (lt (fin true 1 (pos 0)) x)
-  pub below : T (lt x (fin false 1 (pos 52)))
 
 -- ---- the call
 
@@ -81,6 +72,11 @@ partOutcome l q = first (partTable (length l) q)
 abbrev pub entryOf : Outcome → Float → Entry
 entryOf Done x = entry.Of x
 entryOf (Refused r) x = entry.Refused r
+
+-- 0 and the entry, or the refusal's number and values
+abbrev pub entryTells : Entry → Telling Float
+entryTells (entry.Of x) = accepts x
+entryTells (entry.Refused r) = refuses r
 
 -- what `quantile` returns, and the list that it leaves: in order, or zeros after a refusal
 unfoldable pub quantileAnswer : List Float → Float → Entry

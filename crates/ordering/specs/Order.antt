@@ -4,14 +4,14 @@ use mathlib.Core.List.{List, [], _∷_}
 use lib.Ieee.{Float, nan, inf, fin, lt, eq, isNan}
 
 -- with a minus sign
-unfoldable pub minus : Float → Bool
-minus nan = false
-minus (inf s) = s
-minus (fin s m e) = s
+unfoldable pub hasMinus : Float → Bool
+hasMinus nan = false
+hasMinus (inf s) = s
+hasMinus (fin s m e) = s
 
 -- x stands strictly before y. Equal numbers of unlike signs are the two zeros.
 unfoldable pub before : Float → Float → Bool
-before x y = not (isNan x) && (isNan y || (lt x y || (eq x y && (minus x && not (minus y)))))
+before x y = not (isNan x) && (isNan y || (lt x y || (eq x y && (hasMinus x && not (hasMinus y)))))
 
 -- the earlier and the later of two
 abbrev pub earlier : Float → Float → Float

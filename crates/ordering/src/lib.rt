@@ -9,10 +9,10 @@ ghost use Prim.Native.Nat.{_+_, _*_, _/_, _^_, _<_, _≤_};
 ghost use lib.ListN.{length, take, drop};
 ghost use lib.Ieee.{isNan};
 ghost use lib.Ieee.Exact.{HasValue};
-ghost use Rattle.ordering.specs.Order.{minus, before, insert, sorted};
-ghost use Rattle.ordering.specs.Merge.{leads, merged};
+ghost use Rattle.ordering.specs.Order.{hasMinus, before, insert, sorted};
+ghost use Rattle.ordering.specs.Inner.{leads, interleaved, Part, Short};
 ghost use Rattle.refusal.specs.Table.{first};
-ghost use Rattle.ordering.specs.Nearest.{wholeOf, place, quantile, Part, Short, noPart, partTable, quantileAnswer, quantileLaid, sortOutcome, sortLaid};
+ghost use Rattle.ordering.specs.Nearest.{wholeOf, place, quantile, noPart, partTable, quantileAnswer, quantileLaid, sortOutcome, sortLaid};
 
 // An entry of a list, or the refusal.
 pub enum Entry {
@@ -29,7 +29,7 @@ const FEW: usize = 8;
 // The sign of a number.
 fn is_minus(x: f64) -> bool
     requires { ⌜ isNan x ≡ false ⌝ }
-    ensures { λ r. ⌜ r ≡ minus x ⌝ }
+    ensures { λ r. ⌜ r ≡ hasMinus x ⌝ }
 {
     0x8000_0000_0000_0000 <= f64::to_bits(x)
 }
@@ -83,17 +83,6 @@ fn insert_each(xs: &mut [f64])
     }
 }
 
-fn copy(from: &[f64], to: &mut [f64])
-    requires { ⌜ length (now to) ≡ length (now from) ⌝ }
-    ensures { λ _. ⌜ now (to .exit) ≡ now (from .entry) ⌝ }
-{
-    let mut k = 0;
-    while k < from.len() {
-        to[k] = from[k];
-        k += 1;
-    }
-}
-
 // Whether the entry at j, if there is one, stands before x.
 fn is_next(xs: &[f64], j: usize, x: f64) -> bool
     requires { ⌜ j ≤ length (now xs) ⌝ }
@@ -109,7 +98,7 @@ fn is_next(xs: &[f64], j: usize, x: f64) -> bool
 // The place written is never past the next entry of xs, and what is left of xs stands where it belongs.
 fn weave(xs: &mut [f64], room: &[f64])
     requires { ⌜ length (now room) ≤ length (now xs) ⌝ }
-    ensures { λ _. ⌜ now (xs .exit) ≡ merged (now (room .entry)) (drop (length (now (room .entry))) (now (xs .entry))) ⌝ }
+    ensures { λ _. ⌜ now (xs .exit) ≡ interleaved (now (room .entry)) (drop (length (now (room .entry))) (now (xs .entry))) ⌝ }
 {
     let mut i = 0;
     let mut j = room.len();
@@ -130,9 +119,9 @@ fn weave(xs: &mut [f64], room: &[f64])
 // The two parts of xs, which meet at mid, become one list.
 fn merge(xs: &mut [f64], mid: usize, room: &mut [f64])
     requires { ⌜ (mid ≤ length (now xs)) × (mid ≤ length (now room)) ⌝ }
-    ensures { λ _. ⌜ now (xs .exit) ≡ merged (take mid (now (xs .entry))) (drop mid (now (xs .entry))) ⌝ }
+    ensures { λ _. ⌜ now (xs .exit) ≡ interleaved (take mid (now (xs .entry))) (drop mid (now (xs .entry))) ⌝ }
 {
-    copy(&xs[..mid], &mut room[..mid]);
+    lent::copy(&xs[..mid], &mut room[..mid]);
     weave(xs, &room[..mid]);
 }
 
@@ -152,6 +141,21 @@ fn sort_in(xs: &mut [f64], room: &mut [f64])
     merge(xs, mid, room);
 }
 
+// Every NaN of an ordered list stands last: each is stored as an answer that is NaN is.
+fn settle_last(xs: &mut [f64])
+    ensures { λ _. ⌜ now (xs .exit) ≡ now (xs .entry) ⌝ }
+{
+    let mut k = xs.len();
+    while 0 < k {
+        k -= 1;
+        let x = xs[k];
+        if x == x {
+            return;
+        }
+        xs[k] = arithmetic::settled(x);
+    }
+}
+
 // The first half of the longest list has 2,048 entries.
 fn put_in_order(xs: &mut [f64])
     requires { ⌜ length (now xs) ≤ 4097 ⌝ }
@@ -159,9 +163,10 @@ fn put_in_order(xs: &mut [f64])
 {
     let mut room = [0.0; 2048];
     sort_in(xs, &mut room);
+    settle_last(xs);
 }
 
-// A list put in order.
+// Puts a list in order. The list is lent to be written over: what it held is not kept.
 pub fn sort(xs: &mut [f64]) -> Outcome
     ensures { λ r. ⌜ r ≡ sortOutcome (now (xs .entry)) ⌝ }
     ensures { λ _. ⌜ now (xs .exit) ≡ sortLaid (now (xs .entry)) ⌝ }
@@ -238,7 +243,7 @@ fn judge(n: usize, q: f64) -> Outcome
     refusal::refuse(MOST_ENTRIES < n, Refusal::OverLimit, rest)
 }
 
-// The entry that stands at the part q of a list, which is put in order for it.
+// The entry that stands at the part q of a list once it is in order. The list is lent to be written over: it is left in order.
 pub fn quantile(xs: &mut [f64], q: f64) -> Entry
     ensures { λ r. ⌜ r ≡ quantileAnswer (now (xs .entry)) q ⌝ }
     ensures { λ _. ⌜ now (xs .exit) ≡ quantileLaid (now (xs .entry)) q ⌝ }

@@ -6,15 +6,16 @@ use mathlib.Core.Bool.{Bool, true, false, _&&_}
 use lib.Dec.{eqb}
 use lib.Ieee.{Float, nan, binary64, ofBits, toBits, isNan, lt, eq, le, mul, add, sub, div, neg, ofInt}
 use Rattle.tails.specs.Tail.{gain, rowReturn, tailSum, tailCount, mean, shortfall, wealth, higher, peak, fall, drawdown, conditionalDrawdown, shortfallOf, drawdownOf}
-use Rattle.tails.specs.Measures.{Call, call, sizeLines, shapeLines, tailLines, lowLines, measureOutcome, shortfallAnswer, drawdownAnswer}
+use Rattle.tails.specs.Measures.{MeasureCall, measureCall, measureSizeLines, measureShapeLines, lowLines, measureOutcome, shortfallAnswer, drawdownAnswer}
 use Rattle.refusal.specs.Refusal.{numberOf}
 use Rattle.refusal.specs.Table.{first}
 use Rattle.lent.specs.Grid.{tab, sumTo, anyTo}
 use Rattle.lent.specs.Lent.{overLimit, otherLength}
-use Rattle.clusters.specs.Clusters.{recip, recipSum, shares, outside, anyLow, sizeTable}
+use Rattle.clusters.specs.Clusters.{recip, recipSum, shares, outside, anyListedLow, sizeTable}
 use Rattle.clusters.specs.declared.Risk.{Risk}
 use Rattle.clusters.specs.declared.Risk.the-variants as risk
-use Rattle.ordering.specs.Order.{sorted, insertAll, insert, before, minus}
+use Rattle.ordering.specs.Order.{sorted, insertAll, insert, before, hasMinus}
+use Rattle.arithmetic.specs.Arithmetic.{countOf}
 use Rattle.ordering.specs.Nearest.{wholeOf, place, quantile, noPart}
 
 abbrev series : ℕ → Float
@@ -31,7 +32,7 @@ drops q b = eqb (toBits binary64 (conditionalDrawdown 5 series (ofBits binary64 
 -- at 0.05, 0.3, 0.95 and 0.5
 figures : (falls 0x3fa999999999999a 0x3f947ae147ae147b && falls 0x3fd3333333333333 0x3f90a3d70a3d70a4 && falls 0x3fee666666666666 0x3f40624dd2f1a9fa && falls 0x3fe0000000000000 0x3f862fc962fc9630
     && drops 0x3fa999999999999a 0x3f947ae147ae1472 && drops 0x3fd3333333333333 0x3f8eb851eb851ea1 && drops 0x3fee666666666666 0x3f82d77318fc503b && drops 0x3fe0000000000000 0x3f8c432ca57a7858) ≡ true
-unfolding gain rowReturn tailSum tailCount mean shortfall wealth higher peak fall drawdown conditionalDrawdown tab sumTo quantile place wholeOf sorted insertAll insert before minus ofBits toBits isNan lt eq le mul add sub div neg ofInt
+unfolding gain rowReturn tailSum tailCount mean shortfall wealth higher peak fall drawdown conditionalDrawdown tab sumTo quantile place wholeOf sorted insertAll insert before hasMinus ofBits toBits isNan lt eq le mul add sub div neg countOf ofInt
 figures = refl
 
 -- ---- the calls, with a covariance of two unit variances and returns (−3, −1), (1, −1), row by row
@@ -42,8 +43,8 @@ cov = map (ofBits binary64) (0x3ff0000000000000 ∷ 0 ∷ 0 ∷ 0x3ff00000000000
 abbrev rows : List Float
 rows = map (ofBits binary64) (0xc008000000000000 ∷ 0xbff0000000000000 ∷ 0x3ff0000000000000 ∷ 0xbff0000000000000 ∷ [])
 
-abbrev of : List ℕ → Call
-of assets = call rows 2 2 cov 2 2 assets (ofBits binary64 0x3fe0000000000000) 3
+abbrev of : List ℕ → MeasureCall
+of assets = measureCall rows 2 2 cov 2 2 assets (ofBits binary64 0x3fe0000000000000) 3
 
 abbrev gives : Risk → ℕ → Bool
 gives (risk.Of x) b = eqb (toBits binary64 x) b
@@ -57,6 +58,6 @@ refuses (risk.Refused r) k = eqb (numberOf r) k
 -- No rows are 16, before the confidence NaN is 17; a buffer of 2 for two rows is 11, before both.
 calls : (gives (shortfallAnswer (of (0 ∷ []))) 0x4008000000000000 && gives (shortfallAnswer (of (1 ∷ []))) 0x3ff0000000000000 && gives (shortfallAnswer (of (0 ∷ 1 ∷ []))) 0x4000000000000000
     && gives (drawdownAnswer (of (0 ∷ []))) 0x4010000000000000
-    && refuses (shortfallAnswer (call [] 0 2 cov 2 2 (0 ∷ []) nan 1)) 16 && refuses (drawdownAnswer (call rows 2 2 cov 2 2 (0 ∷ []) nan 3)) 17 && refuses (drawdownAnswer (call rows 2 2 cov 2 2 (0 ∷ []) nan 2)) 11) ≡ true
-unfolding shortfallAnswer drawdownAnswer measureOutcome sizeLines shapeLines tailLines lowLines sizeTable overLimit otherLength outside anyLow recipSum recip shares anyTo first noPart shortfallOf drawdownOf gain rowReturn tailSum tailCount mean shortfall wealth higher peak fall drawdown conditionalDrawdown tab sumTo quantile place wholeOf sorted insertAll insert before minus ofBits toBits isNan lt eq le mul add sub div neg ofInt
+    && refuses (shortfallAnswer (measureCall [] 0 2 cov 2 2 (0 ∷ []) nan 1)) 16 && refuses (drawdownAnswer (measureCall rows 2 2 cov 2 2 (0 ∷ []) nan 3)) 17 && refuses (drawdownAnswer (measureCall rows 2 2 cov 2 2 (0 ∷ []) nan 2)) 11) ≡ true
+unfolding shortfallAnswer drawdownAnswer measureOutcome measureSizeLines measureShapeLines lowLines sizeTable overLimit otherLength outside anyListedLow recipSum recip shares anyTo first noPart shortfallOf drawdownOf gain rowReturn tailSum tailCount mean shortfall wealth higher peak fall drawdown conditionalDrawdown tab sumTo quantile place wholeOf sorted insertAll insert before hasMinus ofBits toBits isNan lt eq le mul add sub div neg countOf ofInt
 calls = refl

@@ -15,11 +15,12 @@ use Rattle.lent.proofs.Laws.{cell-in, length-tab, over-all}
 use Rattle.lent.proofs.Fill.{tab-step}
 use Rattle.ordering.specs.Nearest.{quantile}
 use Rattle.arithmetic.specs.Constants.{pz, unit}
-use Rattle.tails.specs.Steps.{Held}
+use Rattle.arithmetic.specs.Arithmetic.{countOf}
+use Rattle.tails.specs.Inner.{HeldRows}
 use Rattle.tails.specs.Tail.{tailSum, tailCount, mean, shortfall, wealth, higher, peak, fall, drawdown, conditionalDrawdown}
 
 -- a cell of an asset listed
-pub held-cell : {returns : List Float} {rows n : ℕ} {assets : List ℕ} {w : List Float} → Held returns rows n assets w → (r k : ℕ) → r < rows → k < length assets
+pub held-cell : {returns : List Float} {rows n : ℕ} {assets : List ℕ} {w : List Float} → HeldRows returns rows n assets w → (r k : ℕ) → r < rows → k < length assets
     → r * n + getD assets k 0 < length returns
 held-cell {returns} {rows} {n} {assets} p r k hr hk = cell-in returns rows n r (getD assets k 0) (p .cells) hr (p .each k hk)
 
@@ -91,7 +92,7 @@ unfolding mean
 mean-none s c e = rw (eq-eqb c 0 e)
 
 pub mean-some : (s : Float) (c : ℕ) → (c ≡ 0 → ⊥) → div binary64 s (ofInt binary64 (pos c)) ≡ mean s c
-unfolding mean
+unfolding mean countOf
 mean-some s c e = rw (ne-eqb c 0 e)
 
 -- ---- the two measures, from their steps

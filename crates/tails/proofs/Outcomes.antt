@@ -22,10 +22,11 @@ use Rattle.lent.proofs.Sizes.{within-limit, same-length, told-as}
 use Rattle.ordering.proofs.Parts.{part-of}
 use Rattle.clusters.specs.Clusters.{nth, shares, outside, sizeTable, riskTable, sharesOutcome, sharesAnswer, sharesLaid, riskOf}
 use Rattle.clusters.specs.declared.Risk.{Risk}
+use Rattle.clusters.specs.declared.Risk.the-variants as risk
 use Rattle.clusters.proofs.Laws.{length-shares}
 use Rattle.tails.specs.Tail.{rowReturn, shortfall, conditionalDrawdown, shortfallOf, drawdownOf}
-use Rattle.tails.specs.Measures.{Call, sizeLines, shapeLines, tailLines, lowLines, measureOutcome, shortfallAnswer, drawdownAnswer}
-use Rattle.tails.specs.Steps.{Ready}
+use Rattle.tails.specs.Measures.{MeasureCall, measureSizeLines, measureShapeLines, tailLines, lowLines, measureOutcome, shortfallAnswer, drawdownAnswer}
+use Rattle.tails.specs.Inner.{TailReady}
 
 -- two lines that are told apart and then joined
 pub two-lines : (s t : Bool) (a b : Refusal) → andThen (orElse s a Done) (orElse t b Done) ≡ first ((s, a) ∷ (t, b) ∷ [])
@@ -37,6 +38,10 @@ two-lines false false a b = refl
 -- the test for 11 as the code has it, with no sum
 pub short-series : (room h : ℕ) → leb room h ≡ ltb room (h + 1)
 short-series room h = rw add-one (sym (leb·suc-suc room h))
+
+-- a measure that was worked out, and stored
+pub risk-done : (said : Outcome) (v x y : Float) → said ≡ Done → v ≡ x → x ≡ y → risk.Of v ≡ riskOf said y
+risk-done said v x y d e h = rw (d, e, h)
 
 -- ---- three stages
 
@@ -62,11 +67,11 @@ same-risk : (o : Outcome) (x y : Float) → (o ≡ Done → x ≡ y) → riskOf 
 same-risk Done x y f = let e = f refl in cc
 same-risk (Refused r) x y f = refl
 
-module _ (m : Call) where
+module _ (m : MeasureCall) where
   -- what `judge_sizes` and `judge_shape` say together
   pub record Judged (said sizes shape : Outcome) : Type 0 where
-    pub of-sizes : sizes ≡ first (sizeLines m)
-    pub of-shape : shape ≡ first (shapeLines m ++ tailLines (m .return-rows) (m .confidence))
+    pub of-sizes : sizes ≡ first (measureSizeLines m)
+    pub of-shape : shape ≡ first (measureShapeLines m ++ tailLines true (m .return-rows) (m .confidence))
     pub of-both : said ≡ andThen sizes shape
 
   whole : {said sizes shape : Outcome} → Judged said sizes shape → measureOutcome m ≡ andThen said (first (lowLines m))
@@ -75,30 +80,30 @@ module _ (m : Call) where
       let a = j .of-sizes in
       let b = j .of-shape in
       let c = j .of-both in
-      staged (sizeLines m) (shapeLines m) (tailLines (m .return-rows) (m .confidence)) (lowLines m) ∙ rw (c, a, b)
+      staged (measureSizeLines m) (measureShapeLines m) (tailLines true (m .return-rows) (m .confidence)) (lowLines m) ∙ rw (c, a, b)
 
   pub stays-refused : {said sizes shape : Outcome} → Judged said sizes shape → (r : Refusal) → said ≡ Refused r → Refused r ≡ measureOutcome m
   stays-refused j r e = sym (whole j ∙ then-refused _ _ r e)
 
   -- ---- a call whose first two stages are done
 
-  module _ (s : first (sizeLines m) ≡ Done) (t : first (shapeLines m ++ tailLines (m .return-rows) (m .confidence)) ≡ Done) where
+  module _ (s : first (measureSizeLines m) ≡ Done) (t : first (measureShapeLines m ++ tailLines true (m .return-rows) (m .confidence)) ≡ Done) where
     -- the weights are refused as the third stage is
     shares-low : (room : ℕ) → room ≡ 64 → sharesOutcome (m .covariance) (m .covariance-rows) (m .covariance-columns) (m .assets) room ≡ first (lowLines m)
-    unfolding sizeLines sizeTable shapeLines tailLines sharesOutcome riskTable lowLines
+    unfolding measureSizeLines sizeTable measureShapeLines sharesOutcome riskTable lowLines
     shares-low room e =
-        let a = none (sizeLines m) s in
-        let b = none (shapeLines m ++ tailLines (m .return-rows) (m .confidence)) t in
+        let a = none (measureSizeLines m) s in
+        let b = none (measureShapeLines m ++ tailLines true (m .return-rows) (m .confidence)) t in
         first-done (sizeTable (m .covariance) (m .covariance-rows) (m .covariance-columns) (m .assets)) _
         (table-pass _ _ _ (a .1 .0) ∙ table-pass _ _ _ (a .1 .1 .0) ∙ table-pass _ _ _ (a .1 .1 .1 .0) ∙ table-end)
         ∙ table-pass _ _ _ (rw e (a .1 .1 .0)) ∙ table-pass _ _ _ (b .0) ∙ table-pass _ _ _ (b .1 .1 .0)
 
     ready-of : (w : List Float) → take (length (m .assets)) w ≡ shares (m .covariance) (m .covariance-columns) (m .assets) → length w ≡ 64
-        → Ready (m .returns) (m .return-rows) (m .covariance-columns) (m .assets) w (m .confidence) (m .room)
-    unfolding sizeLines sizeTable shapeLines tailLines outside
+        → TailReady (m .returns) (m .return-rows) (m .covariance-columns) (m .assets) w (m .confidence) (m .room)
+    unfolding measureSizeLines sizeTable measureShapeLines outside
     ready-of w e k =
-        let a = none (sizeLines m) s in
-        let b = none (shapeLines m ++ tailLines (m .return-rows) (m .confidence)) t in
+        let a = none (measureSizeLines m) s in
+        let b = none (measureShapeLines m ++ tailLines true (m .return-rows) (m .confidence)) t in
         let l = within-limit (m .return-rows) (m .return-columns) (a .0) in
         let z : length (m .returns) ≡ m .return-rows * m .return-columns = same-length _ _ _ (a .1 .1 .1 .1 .0) in
         let n : m .return-rows ≡ 0 → ⊥ = eqb-false (m .return-rows) 0 (b .1 .1 .1 .0) in
@@ -133,10 +138,10 @@ module _ (m : Call) where
   -- ---- what the measures are given, and what they answer, of what `weigh` said and left
 
   module _ (said : Outcome) (w : List Float) (e : said ≡ measureOutcome m) (f : said ≡ Done → take (length (m .assets)) w ≡ shares (m .covariance) (m .covariance-columns) (m .assets)) where
-    pub ready : length w ≡ 64 → said ≡ Done → Ready (m .returns) (m .return-rows) (m .covariance-columns) (m .assets) w (m .confidence) (m .room)
+    pub ready : length w ≡ 64 → said ≡ Done → TailReady (m .returns) (m .return-rows) (m .covariance-columns) (m .assets) w (m .confidence) (m .room)
     unfolding measureOutcome
     ready k d =
-        let p = both-done _ _ (sym (staged (sizeLines m) (shapeLines m) (tailLines (m .return-rows) (m .confidence)) (lowLines m)) ∙ sym e ∙ d) in
+        let p = both-done _ _ (sym (staged (measureSizeLines m) (measureShapeLines m) (tailLines true (m .return-rows) (m .confidence)) (lowLines m)) ∙ sym e ∙ d) in
         let q = both-done _ _ (p .0) in
         ready-of (q .0) (q .1) w (f d) k
 

@@ -1,3 +1,3 @@
 pub mod Tail
 pub mod Measures
-pub mod Steps
+pub mod Inner

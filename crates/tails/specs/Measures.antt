@@ -1,6 +1,6 @@
 -- What `cluster_expected_shortfall` and `cluster_conditional_drawdown` answer: assets of a covariance of w columns, and rows of returns of c columns. Definitions only.
 use Prim.Native.Nat.{ℕ, _+_}
-use mathlib.Core.Bool.{not, _&&_}
+use mathlib.Core.Bool.{Bool, true, not, _&&_}
 use mathlib.Core.List.{List, [], _∷_, _++_}
 use lib.Dec.{ltb, eqb}
 use lib.ListN.{length}
@@ -11,12 +11,12 @@ use Rattle.refusal.specs.declared.Refusal.the-variants.{NoData, DimensionMismat
 use Rattle.refusal.specs.declared.Outcome.{Outcome}
 use Rattle.lent.specs.Lent.{overLimit, otherLength}
 use Rattle.ordering.specs.Nearest.{noPart}
-use Rattle.clusters.specs.Clusters.{recipSum, outside, anyLow, sizeTable, notSquare, riskOf}
+use Rattle.clusters.specs.Clusters.{recipSum, outside, anyListedLow, sizeTable, notSquare, riskOf}
 use Rattle.clusters.specs.declared.Risk.{Risk}
 use Rattle.tails.specs.Tail.{shortfallOf, drawdownOf}
 
 -- the call: rows of returns, a covariance, the assets listed, the confidence, and how long a buffer is lent for the series
-pub record Call : Type 0 where
+pub record MeasureCall : Type 0 where
   pub returns : List Float
   pub return-rows : ℕ
   pub return-columns : ℕ
@@ -27,50 +27,53 @@ pub record Call : Type 0 where
   pub confidence : Float
   pub room : ℕ
 
-abbrev pub call : List Float → ℕ → ℕ → List Float → ℕ → ℕ → List ℕ → Float → ℕ → Call
-call xs h c cov rows w assets q room =
+abbrev pub measureCall : List Float → ℕ → ℕ → List Float → ℕ → ℕ → List ℕ → Float → ℕ → MeasureCall
+measureCall xs h c cov rows w assets q room =
     record { returns = xs; return-rows = h; return-columns = c; covariance = cov; covariance-rows = rows; covariance-columns = w; assets = assets; confidence = q; room = room }
 
 -- "Always 9, 10, 11 first", of both matrices
 -- 11: a buffer for the portfolio's series: its rows and its start
-unfoldable pub sizeLines : Call → List Line
+unfoldable pub measureSizeLines : MeasureCall → List Line
 unfolding sizeTable
-sizeLines m =
+measureSizeLines m =
     (overLimit (m .return-rows) (m .return-columns), OverLimit)
     ∷ (sizeTable (m .covariance) (m .covariance-rows) (m .covariance-columns) (m .assets)
     ++ ((otherLength (length (m .returns)) (m .return-rows) (m .return-columns), SliceLength) ∷ (ltb (m .room) (m .return-rows + 1), ShortBuffer) ∷ []))
 
+-- "return rows present with columns other than n" (3)
+abbrev pub otherWidth : ℕ → ℕ → ℕ → Bool
+otherWidth rows columns n = ltb 0 rows && not (eqb columns n)
+
 -- "a matrix that must be square and isn't .. 3", and "return rows present with columns other than n 3"; "then 14"
-unfoldable pub shapeLines : Call → List Line
+unfoldable pub measureShapeLines : MeasureCall → List Line
 unfolding outside
-shapeLines m =
+measureShapeLines m =
     notSquare (m .covariance-rows) (m .covariance-columns)
-    ∷ (ltb 0 (m .return-rows) && not (eqb (m .return-columns) (m .covariance-columns)), DimensionMismatch)
+    ∷ (otherWidth (m .return-rows) (m .return-columns) (m .covariance-columns), DimensionMismatch)
     ∷ (outside (m .covariance-columns) (m .assets), NoTree)
     ∷ []
 
--- "16, no return rows"; "17 .. confidence NaN or outside 0 to 1, right after 16"
-unfoldable pub tailLines : ℕ → Float → List Line
-unfolding noPart
-tailLines rows q = (eqb rows 0, MissingReturnsForTailRisk) ∷ (noPart q, ConfidenceOutOfRange) ∷ []
+-- "16, no return rows"; "17, under these two metrics, confidence NaN or outside 0 to 1, right after 16": `tailed` says whether the metric is one of the two
+abbrev pub tailLines : Bool → ℕ → Float → List Line
+tailLines tailed rows q = (tailed && eqb rows 0, MissingReturnsForTailRisk) ∷ (tailed && noPart q, ConfidenceOutOfRange) ∷ []
 
 -- "a variance ≤ 0 1", reciprocals that sum to ≤ 0 1
-unfoldable pub lowLines : Call → List Line
-unfolding anyLow recipSum
+unfoldable pub lowLines : MeasureCall → List Line
+unfolding anyListedLow recipSum
 lowLines m =
-    (anyLow (m .covariance) (m .covariance-columns) (m .assets), NoData)
+    (anyListedLow (m .covariance) (m .covariance-columns) (m .assets), NoData)
     ∷ (le (recipSum (m .covariance) (m .covariance-columns) (m .assets)) pz, NoData)
     ∷ []
 
-unfoldable pub measureOutcome : Call → Outcome
-unfolding sizeLines shapeLines tailLines lowLines
-measureOutcome m = first (sizeLines m ++ (shapeLines m ++ (tailLines (m .return-rows) (m .confidence) ++ lowLines m)))
+unfoldable pub measureOutcome : MeasureCall → Outcome
+unfolding measureSizeLines measureShapeLines lowLines
+measureOutcome m = first (measureSizeLines m ++ (measureShapeLines m ++ (tailLines true (m .return-rows) (m .confidence) ++ lowLines m)))
 
 -- what the two calls return
-unfoldable pub shortfallAnswer : Call → Risk
+unfoldable pub shortfallAnswer : MeasureCall → Risk
 unfolding measureOutcome shortfallOf
 shortfallAnswer m = riskOf (measureOutcome m) (shortfallOf (m .returns) (m .return-rows) (m .covariance) (m .covariance-columns) (m .assets) (m .confidence))
 
-unfoldable pub drawdownAnswer : Call → Risk
+unfoldable pub drawdownAnswer : MeasureCall → Risk
 unfolding measureOutcome drawdownOf
 drawdownAnswer m = riskOf (measureOutcome m) (drawdownOf (m .returns) (m .return-rows) (m .covariance) (m .covariance-columns) (m .assets) (m .confidence))

@@ -3,10 +3,10 @@ use Prim.Native.Nat.{ℕ, zero, suc, _+_}
 use mathlib.Core.Bool.{Bool, cond}
 use mathlib.Core.List.{List}
 use lib.Dec.{eqb}
-use lib.IntN.{pos}
 use lib.ListN.{length, getD}
-use lib.Ieee.{Float, nan, binary64, ofInt, add, sub, mul, div, neg, lt, le}
+use lib.Ieee.{Float, nan, binary64, add, sub, mul, div, neg, lt, le}
 use Rattle.arithmetic.specs.Constants.{pz, unit}
+use Rattle.arithmetic.specs.Arithmetic.{countOf}
 use Rattle.lent.specs.Grid.{cell, tab, sumTo}
 use Rattle.ordering.specs.Nearest.{quantile}
 use Rattle.clusters.specs.Clusters.{nth, shares}
@@ -32,7 +32,7 @@ tailCount p (suc n) f = let c = tailCount p n f in cond (p (f n)) (c + 1) c
 
 -- a sum over the number of its terms; 0 where the tail is empty
 unfoldable pub mean : Float → ℕ → Float
-mean s c = cond (eqb c 0) pz (div binary64 s (ofInt binary64 (pos c)))
+mean s c = cond (eqb c 0) pz (div binary64 s (countOf c))
 
 -- ---- expected shortfall: minus the mean of the returns at or below their quantile at the confidence
 

@@ -5,7 +5,7 @@ use ordering::Entry;
 use refusal::Outcome;
 use refusal::Refusal;
 ghost use mathlib.Core.Path.{_≡_};
-ghost use mathlib.Core.Bool.{cond};
+ghost use mathlib.Core.Bool.{true, cond};
 ghost use mathlib.Core.List.{_++_};
 ghost use Prim.Native.Nat.{_+_, _*_, _<_, _≤_};
 ghost use lib.ListN.{length, take};
@@ -14,10 +14,11 @@ ghost use Rattle.refusal.specs.Table.{first};
 ghost use Rattle.refusal.specs.declared.Outcome.the-variants.{Done};
 ghost use Rattle.lent.specs.Grid.{cell, tab, zeros};
 ghost use Rattle.clusters.specs.Clusters.{shares, riskOf};
-ghost use Rattle.ordering.specs.Nearest.{quantile, Part};
+ghost use Rattle.ordering.specs.Nearest.{quantile};
+ghost use Rattle.ordering.specs.Inner.{Part};
 ghost use Rattle.tails.specs.Tail.{rowReturn, tailSum, tailCount, mean, shortfall, higher, fall, drawdown, conditionalDrawdown};
-ghost use Rattle.tails.specs.Steps.{Held, Ready};
-ghost use Rattle.tails.specs.Measures.{call, sizeLines, shapeLines, tailLines, measureOutcome, shortfallAnswer, drawdownAnswer};
+ghost use Rattle.tails.specs.Inner.{HeldRows, TailReady};
+ghost use Rattle.tails.specs.Measures.{measureCall, measureSizeLines, measureShapeLines, tailLines, measureOutcome, shortfallAnswer, drawdownAnswer};
 
 // A sum and the number of its terms.
 struct Tail {
@@ -47,7 +48,7 @@ fn limit_of(xs: &mut [f64], q: f64) -> f64
 
 // Row r's return.
 fn row_return(returns: &[f64], rows: usize, n: usize, assets: &[usize], w: &[f64], r: usize) -> f64
-    requires { ⌜ Held (now returns) rows n (now assets) (now w) ⌝ }
+    requires { ⌜ HeldRows (now returns) rows n (now assets) (now w) ⌝ }
     requires { ⌜ r < rows ⌝ }
     ensures { λ v. ⌜ v ≡ rowReturn (now (returns .entry)) n (now (assets .entry)) (now (w .entry)) r ⌝ }
 {
@@ -69,7 +70,7 @@ fn fill_returns(
     w: &[f64],
     out: &mut [f64],
 )
-    requires { ⌜ Held (now returns) rows n (now assets) (now w) ⌝ }
+    requires { ⌜ HeldRows (now returns) rows n (now assets) (now w) ⌝ }
     requires { ⌜ length (now out) ≡ rows ⌝ }
     ensures { λ _. ⌜ now (out .exit) ≡ tab rows (rowReturn (now (returns .entry)) n (now (assets .entry)) (now (w .entry))) ⌝ }
 {
@@ -121,7 +122,7 @@ fn tail_below(
     w: &[f64],
     limit: f64,
 ) -> Tail
-    requires { ⌜ Held (now returns) rows n (now assets) (now w) ⌝ }
+    requires { ⌜ HeldRows (now returns) rows n (now assets) (now w) ⌝ }
     ensures { λ t. ⌜ t .sum ≡ tailSum (λ x. le x limit) rows (rowReturn (now (returns .entry)) n (now (assets .entry)) (now (w .entry))) ⌝ }
     ensures { λ t. ⌜ t .count ≡ tailCount (λ x. le x limit) rows (rowReturn (now (returns .entry)) n (now (assets .entry)) (now (w .entry))) ⌝ }
     ensures { λ t. ⌜ t .count ≤ rows ⌝ }
@@ -149,7 +150,7 @@ fn expected_shortfall(
     q: f64,
     room: &mut [f64],
 ) -> f64
-    requires { ⌜ Held (now returns) rows n (now assets) (now w) ⌝ }
+    requires { ⌜ HeldRows (now returns) rows n (now assets) (now w) ⌝ }
     requires { ⌜ length (now room) ≡ rows ⌝ }
     requires { ⌜ Part q ⌝ }
     ensures { λ v. ⌜ v ≡ shortfall rows (rowReturn (now (returns .entry)) n (now (assets .entry)) (now (w .entry))) q ⌝ }
@@ -188,7 +189,7 @@ fn fill_drawdowns(
     w: &[f64],
     out: &mut [f64],
 )
-    requires { ⌜ Held (now returns) rows n (now assets) (now w) ⌝ }
+    requires { ⌜ HeldRows (now returns) rows n (now assets) (now w) ⌝ }
     requires { ⌜ length (now out) ≡ rows + 1 ⌝ }
     ensures { λ _. ⌜ now (out .exit) ≡ tab (rows + 1) (drawdown (rowReturn (now (returns .entry)) n (now (assets .entry)) (now (w .entry)))) ⌝ }
 {
@@ -213,7 +214,7 @@ fn tail_above(
     w: &[f64],
     limit: f64,
 ) -> Tail
-    requires { ⌜ Held (now returns) rows n (now assets) (now w) ⌝ }
+    requires { ⌜ HeldRows (now returns) rows n (now assets) (now w) ⌝ }
     ensures { λ t. ⌜ t .sum ≡ tailSum (λ x. le limit x) (rows + 1) (drawdown (rowReturn (now (returns .entry)) n (now (assets .entry)) (now (w .entry)))) ⌝ }
     ensures { λ t. ⌜ t .count ≡ tailCount (λ x. le limit x) (rows + 1) (drawdown (rowReturn (now (returns .entry)) n (now (assets .entry)) (now (w .entry)))) ⌝ }
     ensures { λ t. ⌜ t .count ≤ rows + 1 ⌝ }
@@ -247,7 +248,7 @@ fn conditional_drawdown(
     q: f64,
     room: &mut [f64],
 ) -> f64
-    requires { ⌜ Held (now returns) rows n (now assets) (now w) ⌝ }
+    requires { ⌜ HeldRows (now returns) rows n (now assets) (now w) ⌝ }
     requires { ⌜ length (now room) ≡ rows + 1 ⌝ }
     requires { ⌜ Part q ⌝ }
     ensures { λ v. ⌜ v ≡ conditionalDrawdown rows (rowReturn (now (returns .entry)) n (now (assets .entry)) (now (w .entry))) q ⌝ }
@@ -270,7 +271,9 @@ fn judge_sizes(
     confidence: f64,
     room: usize,
 ) -> Outcome
-    ensures { λ r. ⌜ r ≡ first (sizeLines (call (now (returns .entry)) «return_rows» «return_columns» (now (covariance .entry)) rows columns (now (assets .entry)) confidence room)) ⌝ }
+    ensures { λ r. ⌜ r ≡ first (measureSizeLines
+        (measureCall (now (returns .entry)) «return_rows» «return_columns»
+        (now (covariance .entry)) rows columns (now (assets .entry)) confidence room)) ⌝ }
 {
     // the same as room < return_rows + 1, which could overflow
     let series = refusal::refuse(room <= return_rows, Refusal::ShortBuffer, Outcome::Done);
@@ -299,7 +302,7 @@ fn judge_sizes(
 
 // 16, then 17.
 fn judge_tail(return_rows: usize, confidence: f64) -> Outcome
-    ensures { λ r. ⌜ r ≡ first (tailLines «return_rows» confidence) ⌝ }
+    ensures { λ r. ⌜ r ≡ first (tailLines true «return_rows» confidence) ⌝ }
 {
     let no_rows = refusal::refuse(
         return_rows == 0,
@@ -326,7 +329,10 @@ fn judge_shape(
     confidence: f64,
     room: usize,
 ) -> Outcome
-    ensures { λ r. ⌜ r ≡ first (shapeLines (call (now (returns .entry)) «return_rows» «return_columns» (now (covariance .entry)) rows columns (now (assets .entry)) confidence room) ++ tailLines «return_rows» confidence) ⌝ }
+    ensures { λ r. ⌜ r ≡ first (measureShapeLines
+        (measureCall (now (returns .entry)) «return_rows» «return_columns»
+        (now (covariance .entry)) rows columns (now (assets .entry)) confidence room)
+        ++ tailLines true «return_rows» confidence) ⌝ }
 {
     let inside = refusal::refuse(
         clusters::any_outside(columns, assets),
@@ -352,7 +358,7 @@ fn weigh(
     w: &mut [f64],
 ) -> Outcome
     requires { ⌜ length (now w) ≡ 64 ⌝ }
-    ensures { λ r. ⌜ r ≡ measureOutcome (call (now (returns .entry)) «return_rows» «return_columns» (now (covariance .entry)) rows columns (now (assets .entry)) confidence room) ⌝ }
+    ensures { λ r. ⌜ r ≡ measureOutcome (measureCall (now (returns .entry)) «return_rows» «return_columns» (now (covariance .entry)) rows columns (now (assets .entry)) confidence room) ⌝ }
     ensures { λ r. ⌜ (r ≡ Done → take (length (now (assets .entry))) (now (w .exit)) ≡ shares (now (covariance .entry)) columns (now (assets .entry))) ⌝ }
 {
     let sizes = judge_sizes(
@@ -395,7 +401,7 @@ fn shortfall_after(
     q: f64,
     series: &mut [f64],
 ) -> Risk
-    requires { ⌜ (said ≡ Done → Ready (now returns) rows n (now assets) (now w) q (length (now series))) ⌝ }
+    requires { ⌜ (said ≡ Done → TailReady (now returns) rows n (now assets) (now w) q (length (now series))) ⌝ }
     ensures { λ r. ⌜ r ≡ riskOf said (shortfall rows (rowReturn (now (returns .entry)) n (now (assets .entry)) (take (length (now (assets .entry))) (now (w .entry)))) q) ⌝ }
 {
     match said {
@@ -418,7 +424,7 @@ fn drawdown_after(
     q: f64,
     series: &mut [f64],
 ) -> Risk
-    requires { ⌜ (said ≡ Done → Ready (now returns) rows n (now assets) (now w) q (length (now series))) ⌝ }
+    requires { ⌜ (said ≡ Done → TailReady (now returns) rows n (now assets) (now w) q (length (now series))) ⌝ }
     ensures { λ r. ⌜ r ≡ riskOf said (conditionalDrawdown rows (rowReturn (now (returns .entry)) n (now (assets .entry)) (take (length (now (assets .entry))) (now (w .entry)))) q) ⌝ }
 {
     match said {
@@ -453,7 +459,9 @@ pub fn cluster_expected_shortfall(
     confidence: f64,
     series: &mut [f64],
 ) -> Risk
-    ensures { λ r. ⌜ r ≡ shortfallAnswer (call (now (returns .entry)) «return_rows» «return_columns» (now (covariance .entry)) rows columns (now (assets .entry)) confidence (length (now (series .entry)))) ⌝ }
+    ensures { λ r. ⌜ r ≡ shortfallAnswer
+        (measureCall (now (returns .entry)) «return_rows» «return_columns»
+        (now (covariance .entry)) rows columns (now (assets .entry)) confidence (length (now (series .entry)))) ⌝ }
     ensures { λ _. ⌜ now (series .exit) ≡ zeros (length (now (series .entry))) ⌝ }
 {
     let mut w = [0.0; 64];
@@ -494,7 +502,9 @@ pub fn cluster_conditional_drawdown(
     confidence: f64,
     series: &mut [f64],
 ) -> Risk
-    ensures { λ r. ⌜ r ≡ drawdownAnswer (call (now (returns .entry)) «return_rows» «return_columns» (now (covariance .entry)) rows columns (now (assets .entry)) confidence (length (now (series .entry)))) ⌝ }
+    ensures { λ r. ⌜ r ≡ drawdownAnswer
+        (measureCall (now (returns .entry)) «return_rows» «return_columns»
+        (now (covariance .entry)) rows columns (now (assets .entry)) confidence (length (now (series .entry)))) ⌝ }
     ensures { λ _. ⌜ now (series .exit) ≡ zeros (length (now (series .entry))) ⌝ }
 {
     let mut w = [0.0; 64];

@@ -1,8 +1,9 @@
 -- `bisection::judge` meets its contract. Assumes nothing.
-use mathlib.Core.Path.{sym, _∙_}
+use mathlib.Core.Path.{refl, sym, ap, _∙_}
+use mathlib.Core.Bool.{not}
 use borrow.Author.Needs.{needs}
-use Rattle.refusal.proofs.Tables.{table, table-end, first-done, first-refused}
-use Rattle.bisection.specs.Bisection.{callTable}
+use Rattle.refusal.proofs.Tables.{table-end, said-line, first-done, first-refused}
+use Rattle.bisection.specs.Bisection.{bisectionGiven}
 use Rattle.bisection.proofs.judge.Statement.{statement}
 use Rattle.bisection.proofs.judge.Tie as tie
 
@@ -16,7 +17,7 @@ enum-told-2 : tie.Need-enum-told-2
 enum-told-2 c = search needs
 
 returns : tie.Need-returns
-unfolding callTable
+unfolding bisectionGiven
 returns c = c .enum-told2 .given .1 ∙ sym (first-refused _ _ _ (sym (c .before .before .sized .ensures) ∙ c .enum-told2 .given .1))
 
 refuse-requires : tie.Need-refuse-requires
@@ -35,10 +36,17 @@ refuse-requires-4 : tie.Need-refuse-requires-4
 refuse-requires-4 c κs = search needs
 
 returns-2 : tie.Need-returns-2
-unfolding callTable
+unfolding bisectionGiven
 returns-2 c =
     let e = sym (c .before .before .before .before .before .before .before .sized .ensures) ∙ c .before .before .before .before .before .enum-told .given .1 in
-    rw (first-done _ _ e) (simp (table, table-end) (cc))
+    said-line _ _ _ _ _ _ refl
+    (said-line _ _ _ _ _ _ refl
+    (said-line _ _ _ _ _ _ (ap not (c .before .before .before .is-order .ensures))
+    (said-line _ _ _ _ _ _ refl (c .before .before .before .before .before .enum-told .given .1 ∙ sym table-end) (c .before .before .before .before .refuse .ensures))
+    (c .before .before .refuse2 .ensures))
+    (c .before .refuse3 .ensures))
+    (c .refuse4 .ensures)
+    ∙ sym (first-done _ _ e)
 
 pub judge-spec : {M : Type 1} → statement M
 judge-spec =

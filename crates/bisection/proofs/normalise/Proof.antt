@@ -11,7 +11,7 @@ divide-requires : tie.Need-divide-requires
 divide-requires c κs = search needs
 
 same-length : tie.Need-same-length
-same-length c = search needs
+same-length c = c .before .before .divide .kept .0
 
 returns : tie.Need-returns
 returns c = normal-yes _ _ _ (c .before .before .before .before .before .total .ensures) (c .before .before .before .before .if1 .taken) (c .before .before .divide .ensures)

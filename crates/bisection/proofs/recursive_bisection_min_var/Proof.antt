@@ -1,5 +1,5 @@
 -- `bisection::recursive_bisection_min_var` meets its contract. How it ends is in `Laws`. Assumes nothing.
-use mathlib.Core.Path.{refl, sym}
+use mathlib.Core.Path.{refl, sym, _∙_}
 use borrow.Author.Tests.{not-true, not-false}
 use borrow.Author.Needs.{needs}
 use lib.ListN.{length-replicate}
@@ -24,7 +24,7 @@ answered-requires : tie.Need-answered-requires
 answered-requires c κs = search needs
 
 same-length : tie.Need-same-length
-same-length c = search needs
+same-length c = c .before .before .before .before .before .clear .kept .0
 
 returns : tie.Need-returns
 returns c =
@@ -47,8 +47,8 @@ share-requires c κs =
     let h = c .before .enum-told .given .1 in
     (call-low _ _ _ _ _ _ e h, rw (c .before .before .before .before .before .clear .ensures) (take-zeros _ _ (call-roomy _ _ _ _ _ _ e h)))
 
-clear-requires-2 : tie.Need-clear-requires-2
-clear-requires-2 c κs = search needs
+refused-requires : tie.Need-refused-requires
+refused-requires c κs = search needs
 
 same-length-2 : tie.Need-same-length-2
 same-length-2 c = search needs
@@ -59,7 +59,9 @@ returns-2 c =
     let h = c .before .before .before .before .before .before .before .before .before .enum-told .given .1 in
     let blank = c .before .before .before .before .before .before .before .before .before .before .before .before .before .clear .last .0 in
     let shared = c .before .before .before .before .before .before .before .share in
-    ends-side _ _ _ _ _ _ e _ h (shared .result) _ (shared .ensures) (not-true _ (c .before .before .before .before .if1 .taken)) blank (c .before .before .clear2 .ensures) (search needs)
+    let none = c .before .before .refused .ensures in
+    let ends = ends-side _ _ _ _ _ _ e _ h (shared .result) _ (shared .ensures) (not-true _ (c .before .before .before .before .if1 .taken)) blank (none .1) (search needs) in
+    (none .0 ∙ ends .0, ends .1)
 
 answered-requires-2 : tie.Need-answered-requires-2
 answered-requires-2 c κs = search needs
@@ -89,7 +91,7 @@ recursive-bisection-min-var-spec =
     slice-relend-prefix-share
     slice-aggregate-share
     share-requires
-    clear-requires-2
+    refused-requires
     same-length-2
     returns-2
     answered-requires-2

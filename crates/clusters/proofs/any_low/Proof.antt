@@ -8,7 +8,7 @@ use lib.Ieee.{le}
 use Rattle.arithmetic.specs.Constants.{pz}
 use Rattle.lent.specs.Grid.{anyTo}
 use Rattle.lent.proofs.Sums.{any-none, any-more, any-end, any-hit}
-use Rattle.clusters.specs.Clusters.{nth, varianceAt, anyLow}
+use Rattle.clusters.specs.Clusters.{nth, varianceAt, anyListedLow}
 use Rattle.clusters.proofs.any_low.Statement.{statement}
 use Rattle.clusters.proofs.any_low.Tie as tie
 
@@ -25,7 +25,7 @@ own-variance-requires : tie.Need-own-variance-requires Inv-loop μ-loop
 own-variance-requires c κs = search filling
 
 returns : tie.Need-returns Inv-loop μ-loop
-unfolding anyLow
+unfolding anyListedLow
 returns c =
     let a = c .before .before .before .before .before .before .args in
     sym (any-hit (λ i. le (varianceAt (a .cov .now) (a .n) (nth (a .assets .now) i)) pz) _ (c .before .before .before .loop .k) (omega arith) (rw (← c .before .own-variance .ensures) (c .if1 .taken)))
@@ -40,7 +40,7 @@ loop-again : tie.Need-loop-again Inv-loop μ-loop
 loop-again c = (search filling, any-more _ _ (c .before .before .before .loop .inv .1) (rw (← c .before .own-variance .ensures) (c .if1 .left)))
 
 returns-2 : tie.Need-returns-2 Inv-loop μ-loop
-unfolding anyLow
+unfolding anyListedLow
 returns-2 c = sym (any-end _ _ _ (c .before .loop .inv .1) (c .before .loop .inv .0) (c .loop-test .left))
 
 pub any-low-spec : {M : Type 1} → statement M

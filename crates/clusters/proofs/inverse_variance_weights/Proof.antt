@@ -30,7 +30,7 @@ answered-requires : tie.Need-answered-requires
 answered-requires c κs = search needs
 
 same-length : tie.Need-same-length
-same-length c = search needs
+same-length c = c .before .before .before .before .before .clear .kept .0
 
 returns : tie.Need-returns
 returns c =
@@ -49,7 +49,7 @@ answered-requires-2 : tie.Need-answered-requires-2
 answered-requires-2 c κs = search needs
 
 same-length-2 : tie.Need-same-length-2
-same-length-2 c = search needs
+same-length-2 c = c .before .before .before .fill .kept .1 .1 .1 .0 ∙ c .before .before .before .before .before .before .before .before .before .clear .kept .0
 
 returns-2 : tie.Need-returns-2
 returns-2 c =

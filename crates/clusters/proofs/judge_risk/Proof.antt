@@ -28,7 +28,11 @@ refuse-requires-2 c κs = search needs
 returns-2 : tie.Need-returns-2
 returns-2 c =
     let a = c .before .before .before .before .before .before .before .before .args in
-    rw (inside (a .cov .now) (a .n) (a .assets .now) (sym (c .before .before .before .before .before .any-outside .ensures) ∙ c .before .before .before .before .if1 .left)) (cc)
+    inside (a .cov .now) (a .n) (a .assets .now) _ _ _ _ (sym (c .before .before .before .before .before .any-outside .ensures) ∙ c .before .before .before .before .if1 .left)
+    (c .before .before .before .recip-sum .ensures)
+    (c .before .before .refuse .ensures)
+    (c .before .any-low .ensures)
+    (c .refuse2 .ensures)
 
 pub judge-risk-spec : {M : Type 1} → statement M
 judge-risk-spec =

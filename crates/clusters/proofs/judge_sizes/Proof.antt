@@ -1,4 +1,5 @@
-use Rattle.refusal.proofs.Tables.{table, table-end}
+use mathlib.Core.Path.{refl}
+use Rattle.refusal.proofs.Tables.{said-line, said-last}
 use Rattle.clusters.specs.Clusters.{sizeTable}
 use borrow.Author.Needs.{needs}
 use Rattle.clusters.proofs.judge_sizes.Statement.{statement}
@@ -21,7 +22,12 @@ refuse-requires-3 c κs = search needs
 
 returns : tie.Need-returns
 unfolding sizeTable
-returns c = simp (table, table-end) (cc)
+returns c =
+    said-line _ _ _ _ _ _ (c .before .over-limit .ensures)
+    (said-line _ _ _ _ _ _ refl
+    (said-last _ _ _ _ (c .before .before .before .before .has-other-length .ensures) (c .before .before .before .refuse .ensures))
+    (c .before .before .refuse2 .ensures))
+    (c .refuse3 .ensures)
 
 pub judge-sizes-spec : {M : Type 1} → statement M
 judge-sizes-spec =

@@ -33,11 +33,11 @@ loop-less c = search filling
 loop-again : tie.Need-loop-again Inv-loop μ-loop
 loop-again c = (omega arith, sums-step _ _ _ _ _ (c .before .before .loop .inv .1) (c .add-row .ensures))
 
-max-requires : tie.Need-max-requires Inv-loop μ-loop
-max-requires c κs = search filling
+at-least-zero-requires : tie.Need-at-least-zero-requires Inv-loop μ-loop
+at-least-zero-requires c κs = search filling
 
 returns : tie.Need-returns Inv-loop μ-loop
-returns c = c .max .ensures ∙ ap (λ (s : Float). maxOf s pz) (sums-end _ _ _ _ _ (c .before .before .loop .inv .1) (c .before .before .loop .inv .0) (c .before .loop-test .left))
+returns c = c .at-least-zero .ensures ∙ ap (λ (s : Float). maxOf s pz) (sums-end _ _ _ _ _ (c .before .before .loop .inv .1) (c .before .before .loop .inv .0) (c .before .loop-test .left))
 
 pub weighted-variance-spec : {M : Type 1} → statement M
 weighted-variance-spec =
@@ -50,5 +50,5 @@ weighted-variance-spec =
     add-i
     loop-less
     loop-again
-    max-requires
+    at-least-zero-requires
     returns)

@@ -1,9 +1,9 @@
 -- `ordering::merge` meets its contract. Assumes nothing.
-use mathlib.Core.Path.{sym, _∙_}
+use mathlib.Core.Path.{sym}
 use native.Mathlib.Omega.{arith}
 use borrow.Author.Needs.{needs}
 use lib.Seq.{length-take-le}
-use Rattle.ordering.proofs.Merging.{front-length, merge-made}
+use Rattle.ordering.proofs.Merging.{copied, front-length, merge-made}
 use Rattle.ordering.proofs.merge.Statement.{statement}
 use Rattle.ordering.proofs.merge.Tie as tie
 
@@ -20,7 +20,7 @@ slice-aggregate-copy-2 : tie.Need-slice-aggregate-copy-2
 slice-aggregate-copy-2 c = sym (length-take-le _ _ (c .before .before .before .before .pre .1))
 
 copy-requires : tie.Need-copy-requires
-copy-requires c κs = length-take-le _ _ (c .before .before .before .before .pre .1) ∙ sym (length-take-le _ _ (c .before .before .before .before .pre .0))
+copy-requires c κs = search needs
 
 slice-reshare-prefix-weave : tie.Need-slice-reshare-prefix-weave
 slice-reshare-prefix-weave c = search needs
@@ -29,16 +29,16 @@ slice-aggregate-weave : tie.Need-slice-aggregate-weave
 slice-aggregate-weave c =
     let s = c .before .before .before .before .before .before .before .before .before in
     let k = c .before .before .before .before .copy in
-    sym (front-length (s .args .xs .now) (s .args .room .now) (k .last .1 .0) (s .args .mid) (s .pre .0) (k .ensures))
+    sym (front-length (s .args .xs .now) (s .args .room .now) (k .last .1 .0) (s .args .mid) (s .pre .0) (copied (s .args .xs .now) (s .args .room .now) (k .last .1 .0) (s .args .mid) (s .pre .0) (s .pre .1) (k .ensures)))
 
 weave-requires : tie.Need-weave-requires
 weave-requires c κs =
     let s = c .before .before .before .before .before .before .before .before .before in
     let k = c .before .before .before .before .copy in
-    omega (arith, front-length (s .args .xs .now) (s .args .room .now) (k .last .1 .0) (s .args .mid) (s .pre .0) (k .ensures), s .pre .0)
+    omega (arith, front-length (s .args .xs .now) (s .args .room .now) (k .last .1 .0) (s .args .mid) (s .pre .0) (copied (s .args .xs .now) (s .args .room .now) (k .last .1 .0) (s .args .mid) (s .pre .0) (s .pre .1) (k .ensures)), s .pre .0)
 
 same-length : tie.Need-same-length
-same-length c = search needs
+same-length c = c .before .before .weave .kept .0
 
 same-length-2 : tie.Need-same-length-2
 same-length-2 c = search needs
@@ -47,7 +47,7 @@ returns : tie.Need-returns
 returns c =
     let s = c .before .before .before .before .before .before .before .before .before .before .before .before in
     let k = c .before .before .before .before .before .before .before .copy in
-    merge-made (s .args .xs .now) (s .args .room .now) (k .last .1 .0) (s .args .mid) (s .pre .0) (k .ensures) _ (c .before .before .weave .ensures)
+    merge-made (s .args .xs .now) (s .args .room .now) (k .last .1 .0) (s .args .mid) (s .pre .0) (copied (s .args .xs .now) (s .args .room .now) (k .last .1 .0) (s .args .mid) (s .pre .0) (s .pre .1) (k .ensures)) _ (c .before .before .weave .ensures)
 
 pub merge-spec : {M : Type 1} → statement M
 merge-spec =

@@ -3,6 +3,7 @@ use Prim.Native.Nat.{ℕ, _-_, _<_}
 use mathlib.Core.Path.{sym, subst}
 use native.Mathlib.Omega.{arith}
 use borrow.Author.Needs.{needs}
+use Rattle.arithmetic.specs.Arithmetic.{countOf}
 use Rattle.arithmetic.proofs.Whole.{castable}
 use Rattle.ordering.proofs.Nearest.{product, place-in}
 use Rattle.ordering.specs.Nearest.{place}
@@ -19,7 +20,7 @@ nearest-whole-requires : tie.Need-nearest-whole-requires
 nearest-whole-requires c κs = product (c .before .args .q) (c .before .args .n - 1) (let h = c .before .pre .1 .1 in omega arith) (c .before .pre .0) .0
 
 returns : tie.Need-returns
-unfolding place
+unfolding place countOf
 returns c =
     let p = place-in (c .before .before .args .q) (c .before .before .args .n) (c .before .before .pre .1 .0) (omega arith) (c .before .before .pre .0) in
     let e = c .nearest-whole .ensures in

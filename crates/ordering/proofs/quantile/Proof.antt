@@ -29,7 +29,7 @@ settled-requires : tie.Need-settled-requires
 settled-requires c κs = search needs
 
 same-length : tie.Need-same-length
-same-length c = search needs
+same-length c = c .before .before .clear .kept .0
 
 returns : tie.Need-returns
 unfolding partOutcome
@@ -38,7 +38,7 @@ returns c =
     quantile-refused (a .xs .now) (a .q) _ _ _ (c .before .before .before .before .before .before .before .judge .ensures) (c .before .before .before .before .before .r .given .1) (c .before .before .clear .ensures)
 
 same-length-2 : tie.Need-same-length-2
-same-length-2 c = search needs
+same-length-2 c = c .before .before .before .quantile-in .kept .0
 
 returns-2 : tie.Need-returns-2
 unfolding partOutcome

@@ -8,7 +8,7 @@ put-in-order-requires : tie.Need-put-in-order-requires
 put-in-order-requires c κs = search needs
 
 same-length : tie.Need-same-length
-same-length c = search needs
+same-length c = c .before .before .before .put-in-order .kept .0
 
 returns : tie.Need-returns
 returns c = (quantile-none _ _ (c .if1 .taken), c .before .before .before .put-in-order .ensures)
@@ -23,7 +23,7 @@ slice-read-result : tie.Need-slice-read-result
 slice-read-result c = search needs
 
 same-length-2 : tie.Need-same-length-2
-same-length-2 c = search needs
+same-length-2 c = c .before .before .before .before .before .put-in-order .kept .0
 
 returns-2 : tie.Need-returns-2
 returns-2 c =

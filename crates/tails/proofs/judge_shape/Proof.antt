@@ -1,6 +1,7 @@
 -- `tails::judge_shape` meets its contract. Assumes nothing.
-use Rattle.refusal.proofs.Tables.{table}
-use Rattle.tails.specs.Measures.{shapeLines}
+use mathlib.Core.Path.{refl}
+use Rattle.refusal.proofs.Tables.{said-line}
+use Rattle.tails.specs.Measures.{measureShapeLines}
 use borrow.Author.Needs.{needs}
 use Rattle.tails.proofs.judge_shape.Statement.{statement}
 use Rattle.tails.proofs.judge_shape.Tie as tie
@@ -24,8 +25,13 @@ refuse-requires-3 : tie.Need-refuse-requires-3
 refuse-requires-3 c κs = search needs
 
 returns : tie.Need-returns
-unfolding shapeLines
-returns c = simp (table) (cc)
+unfolding measureShapeLines
+returns c =
+    said-line _ _ _ _ _ _ refl
+    (said-line _ _ _ _ _ _ (c .before .before .both .ensures)
+    (said-line _ _ _ _ _ _ (c .before .before .before .before .before .any-outside .ensures) (c .before .before .before .before .judge-tail .ensures) (c .before .before .before .refuse .ensures))
+    (c .before .refuse2 .ensures))
+    (c .refuse3 .ensures)
 
 pub judge-shape-spec : {M : Type 1} → statement M
 judge-shape-spec =

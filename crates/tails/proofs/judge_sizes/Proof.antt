@@ -1,7 +1,8 @@
 -- `tails::judge_sizes` meets its contract. Assumes nothing.
-use Rattle.refusal.proofs.Tables.{table, table-end}
+use mathlib.Core.Path.{refl}
+use Rattle.refusal.proofs.Tables.{said-line, said-last}
 use Rattle.clusters.specs.Clusters.{sizeTable}
-use Rattle.tails.specs.Measures.{sizeLines}
+use Rattle.tails.specs.Measures.{measureSizeLines}
 use Rattle.tails.proofs.Outcomes.{short-series}
 use borrow.Author.Needs.{needs}
 use Rattle.tails.proofs.judge_sizes.Statement.{statement}
@@ -38,11 +39,19 @@ refuse-requires-6 : tie.Need-refuse-requires-6
 refuse-requires-6 c κs = search needs
 
 returns : tie.Need-returns
-unfolding sizeLines sizeTable
+unfolding measureSizeLines sizeTable
 returns c =
     let a = c .before .before .before .before .before .before .before .before .before .before .before .before .before .args in
     let s = short-series (a .room) (a .return-rows) in
-    simp (table, table-end) (cc)
+    said-line _ _ _ _ _ _ (c .before .over-limit2 .ensures)
+    (said-line _ _ _ _ _ _ (c .before .before .before .over-limit .ensures)
+    (said-line _ _ _ _ _ _ refl
+    (said-line _ _ _ _ _ _ (c .before .before .before .before .before .before .has-other-length2 .ensures)
+    (said-line _ _ _ _ _ _ (c .before .before .before .before .before .before .before .before .has-other-length .ensures) (said-last _ _ _ _ s (c .before .before .before .before .before .before .before .before .before .refuse .ensures)) (c .before .before .before .before .before .before .before .refuse2 .ensures))
+    (c .before .before .before .before .before .refuse3 .ensures))
+    (c .before .before .before .before .refuse4 .ensures))
+    (c .before .before .refuse5 .ensures))
+    (c .refuse6 .ensures)
 
 pub judge-sizes-spec : {M : Type 1} → statement M
 judge-sizes-spec =

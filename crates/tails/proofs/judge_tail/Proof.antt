@@ -1,5 +1,4 @@
 -- `tails::judge_tail` meets its contract. Assumes nothing.
-use Rattle.tails.specs.Measures.{tailLines}
 use Rattle.tails.proofs.Outcomes.{two-lines}
 use borrow.Author.Needs.{needs}
 use Rattle.tails.proofs.judge_tail.Statement.{statement}
@@ -18,7 +17,6 @@ and-then-requires : tie.Need-and-then-requires
 and-then-requires c κs = search needs
 
 returns : tie.Need-returns
-unfolding tailLines
 returns c = rw (c .and-then .ensures, c .before .before .before .refuse .ensures, c .before .refuse2 .ensures, c .before .before .is-no-part .ensures) (two-lines _ _ _ _)
 
 pub judge-tail-spec : {M : Type 1} → statement M

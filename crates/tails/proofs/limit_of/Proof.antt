@@ -14,13 +14,13 @@ enum-told : tie.Need-enum-told
 enum-told c = search needs
 
 same-length : tie.Need-same-length
-same-length c = search needs
+same-length c = c .before .before .before .before .before .quantile .kept .0
 
 returns : tie.Need-returns
 returns c = entry-given _ _ (c .before .before .before .before .before .before .before .before .pre .1) (c .before .before .before .before .before .before .before .before .pre .0) _ (c .before .before .before .before .before .quantile .ensures .0) _ (c .before .x .given .1)
 
 same-length-2 : tie.Need-same-length-2
-same-length-2 c = search needs
+same-length-2 c = c .before .before .before .before .quantile .kept .0
 
 returns-2 : tie.Need-returns-2
 returns-2 c = absurd (entry-not _ _ (c .before .before .before .before .before .before .before .pre .1) (c .before .before .before .before .before .before .before .pre .0) _ (c .before .before .before .before .quantile .ensures .0) _ (c .enum-told .given .1))

@@ -3,6 +3,7 @@ use mathlib.Core.Path.{sym}
 use lib.Seq.{length-take-le}
 use native.Mathlib.Omega.{arith}
 use borrow.Author.Needs.{needs}
+use Rattle.tails.proofs.Outcomes.{risk-done}
 use Rattle.tails.proofs.shortfall_after.Statement.{statement}
 use Rattle.tails.proofs.shortfall_after.Tie as tie
 
@@ -34,7 +35,7 @@ same-length : tie.Need-same-length
 same-length c = search needs
 
 returns-2 : tie.Need-returns-2
-returns-2 c = rw (c .before .before .before .before .before .before .enum-told .given .1) (cc)
+returns-2 c = risk-done _ _ _ _ (c .before .before .before .before .before .before .enum-told .given .1) (c .settled .ensures) (c .before .before .before .expected-shortfall .ensures)
 
 pub shortfall-after-spec : {M : Type 1} → statement M
 shortfall-after-spec =

@@ -1,7 +1,7 @@
 -- `tails::weigh` meets its contract. Assumes nothing.
 use mathlib.Core.Path.{sym, _∙_}
 use Rattle.refusal.proofs.Tables.{done-refused}
-use Rattle.tails.specs.Measures.{call}
+use Rattle.tails.specs.Measures.{measureCall}
 use Rattle.tails.proofs.Outcomes.{Judged, stays-refused, weighed}
 use borrow.Author.Needs.{needs}
 use Rattle.tails.proofs.weigh.Statement.{statement}
@@ -24,7 +24,7 @@ enum-told-2 c = search needs
 
 returns : tie.Need-returns
 returns c =
-    let m = (call (c .before .before .before .before .before .before .before .before .before .args .returns .now) (c .before .before .before .before .before .before .before .before .before .args .return-rows) (c .before .before .before .before .before .before .before .before .before .args .return-columns) (c .before .before .before .before .before .before .before .before .before .args .covariance .now) (c .before .before .before .before .before .before .before .before .before .args .rows) (c .before .before .before .before .before .before .before .before .before .args .columns) (c .before .before .before .before .before .before .before .before .before .args .assets .now) (c .before .before .before .before .before .before .before .before .before .args .confidence) (c .before .before .before .before .before .before .before .before .before .args .room)) in
+    let m = (measureCall (c .before .before .before .before .before .before .before .before .before .args .returns .now) (c .before .before .before .before .before .before .before .before .before .args .return-rows) (c .before .before .before .before .before .before .before .before .before .args .return-columns) (c .before .before .before .before .before .before .before .before .before .args .covariance .now) (c .before .before .before .before .before .before .before .before .before .args .rows) (c .before .before .before .before .before .before .before .before .before .args .columns) (c .before .before .before .before .before .before .before .before .before .args .assets .now) (c .before .before .before .before .before .before .before .before .before .args .confidence) (c .before .before .before .before .before .before .before .before .before .args .room)) in
     let j : Judged m (c .before .before .and-then .result) (c .before .before .before .before .judge-sizes .result) (c .before .before .before .judge-shape .result) = record { of-sizes = c .before .before .before .before .judge-sizes .ensures; of-shape = c .before .before .before .judge-shape .ensures; of-both = c .before .before .and-then .ensures } in
     (c .enum-told2 .given .1 ∙ stays-refused m j _ (c .enum-told2 .given .1), λ d. absurd (done-refused _ (sym d ∙ c .enum-told2 .given .1)))
 
@@ -35,11 +35,11 @@ told-requires : tie.Need-told-requires
 told-requires c κs = search needs
 
 same-length : tie.Need-same-length
-same-length c = search needs
+same-length c = c .before .before .before .inverse-variance-weights .kept .1 .1 .1 .1 .0
 
 returns-2 : tie.Need-returns-2
 returns-2 c =
-    let m = (call (c .before .before .before .before .before .before .before .before .before .before .before .before .before .before .args .returns .now) (c .before .before .before .before .before .before .before .before .before .before .before .before .before .before .args .return-rows) (c .before .before .before .before .before .before .before .before .before .before .before .before .before .before .args .return-columns) (c .before .before .before .before .before .before .before .before .before .before .before .before .before .before .args .covariance .now) (c .before .before .before .before .before .before .before .before .before .before .before .before .before .before .args .rows) (c .before .before .before .before .before .before .before .before .before .before .before .before .before .before .args .columns) (c .before .before .before .before .before .before .before .before .before .before .before .before .before .before .args .assets .now) (c .before .before .before .before .before .before .before .before .before .before .before .before .before .before .args .confidence) (c .before .before .before .before .before .before .before .before .before .before .before .before .before .before .args .room)) in
+    let m = (measureCall (c .before .before .before .before .before .before .before .before .before .before .before .before .before .before .args .returns .now) (c .before .before .before .before .before .before .before .before .before .before .before .before .before .before .args .return-rows) (c .before .before .before .before .before .before .before .before .before .before .before .before .before .before .args .return-columns) (c .before .before .before .before .before .before .before .before .before .before .before .before .before .before .args .covariance .now) (c .before .before .before .before .before .before .before .before .before .before .before .before .before .before .args .rows) (c .before .before .before .before .before .before .before .before .before .before .before .before .before .before .args .columns) (c .before .before .before .before .before .before .before .before .before .before .before .before .before .before .args .assets .now) (c .before .before .before .before .before .before .before .before .before .before .before .before .before .before .args .confidence) (c .before .before .before .before .before .before .before .before .before .before .before .before .before .before .args .room)) in
     let j : Judged m (c .before .before .before .before .before .before .before .and-then .result) (c .before .before .before .before .before .before .before .before .before .judge-sizes .result) (c .before .before .before .before .before .before .before .before .judge-shape .result) = record { of-sizes = c .before .before .before .before .before .before .before .before .before .judge-sizes .ensures; of-shape = c .before .before .before .before .before .before .before .before .judge-shape .ensures; of-both = c .before .before .before .before .before .before .before .and-then .ensures } in
     weighed m j (c .before .before .before .before .before .enum-told .given .1) _ (c .before .before .before .before .before .before .before .before .before .before .before .before .before .before .pre) _ _ _ (c .before .before .before .inverse-variance-weights .ensures .0) (c .before .before .before .inverse-variance-weights .ensures .1) (c .told .ensures)
 

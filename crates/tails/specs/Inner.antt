@@ -1,22 +1,22 @@
--- What the private functions ask. Definitions only.
+-- What the private functions ask of one another and promise: may be skipped. Definitions only.
 use Prim.Native.Nat.{ℕ, _+_, _*_, _<_, _≤_}
 use mathlib.Core.Path.{_≡_}
 use mathlib.Core.List.{List}
 use lib.ListN.{length, take}
 use lib.Ieee.{Float}
-use Rattle.ordering.specs.Nearest.{Part}
+use Rattle.ordering.specs.Inner.{Part}
 use Rattle.clusters.specs.Clusters.{nth}
 
 -- rows of n returns, assets among the n, and a weight for each
-pub record Held (returns : List Float) (rows n : ℕ) (assets : List ℕ) (w : List Float) : Type 0 where
+pub record HeldRows (returns : List Float) (rows n : ℕ) (assets : List ℕ) (w : List Float) : Type 0 where
   pub few : rows ≤ 4096
   pub cells : length returns ≡ rows * n
   pub each : (k : ℕ) → k < length assets → nth assets k < n
   pub weights : length w ≡ length assets
 
 -- the same of a call that was not refused, with the weights at the front of w
-pub record Ready (returns : List Float) (rows n : ℕ) (assets : List ℕ) (w : List Float) (q : Float) (room : ℕ) : Type 0 where
-  pub held : Held returns rows n assets (take (length assets) w)
+pub record TailReady (returns : List Float) (rows n : ℕ) (assets : List ℕ) (w : List Float) (q : Float) (room : ℕ) : Type 0 where
+  pub held : HeldRows returns rows n assets (take (length assets) w)
   pub listed : length assets ≤ length w
   pub part : Part q
   pub roomy : rows + 1 ≤ room
