@@ -25,9 +25,9 @@ use Rattle.tree.specs.Rows.{isTree}
 use Rattle.tree.specs.Tree.{Tree, treeAt, leavesOf}
 use Rattle.tree.proofs.Order.{order-size, order-each, leaves-low}
 use Rattle.clusters.specs.Shares.{some}
-use Rattle.sharing.specs.declared.Metric.the-variants.{EqualWeighting}
+use Rattle.metrics.specs.declared.Metric.the-variants.{EqualWeighting}
 use Rattle.sharing.specs.Split.{Inputs}
-use Rattle.sharing.specs.Allot.{splits, sharesOf}
+use Rattle.sharing.specs.Allot.{splits, downShares}
 use Rattle.equal.specs.Clusters.{Cluster, clusters, clusterAt}
 use Rattle.equal.specs.Equal.{weight, total, portion, ClusterShare, Only, EqualShares}
 use Rattle.equal.proofs.Cut.{each-at, one-alone, sum-leaves, Fits, all-fit, shares}
@@ -133,7 +133,7 @@ module _ (ws : List Float) (t : Tree) (c : Cluster) (f : Fits c) (g : Gets ws t 
 -- ---- the whole tree
 
 module _ (x : Inputs) (cov : List Float) (n k : ℕ) (rows : List ℕ) (some-asset : 1 ≤ n) (limit : n ≤ 64) (tree : isTree rows n ≡ true) (one-cluster : 1 ≤ k) (cut : k ≤ n)
-    (ws : List Float) (e : sharesOf EqualWeighting x cov rows n k ≡ some ws) where
+    (ws : List Float) (e : downShares EqualWeighting x cov rows n k ≡ some ws) where
   abbrev top : Tree
   top = treeAt rows n (2 * n - 2)
 
@@ -167,14 +167,14 @@ module _ (x : Inputs) (cov : List Float) (n k : ℕ) (rows : List ℕ) (some-ass
   many = number rows n some-asset tree k one-cluster cut
 
   size : length ws ≡ n
-  unfolding sharesOf
+  unfolding downShares
   size = allot-kept x cov n k top (splits n k top) unit (zeros n) ws e .size ∙ length-replicate n pz
 
   fit : (j : ℕ) → j < k → Fits (clusterAt rows n k j)
   fit j lt = each-at (all-fit n k top (splits n k top) 0 fits) j (omega (arith, many))
 
   gets : (j : ℕ) → j < k → Gets ws top (clusterAt rows n k j)
-  unfolding sharesOf halves
+  unfolding downShares halves
   gets j lt = each-at (given x cov n k top (splits n k top) 0 (zeros n) ws e at-most-once inside fits) j (omega (arith, many))
 
   -- the units of an asset's weight, and of those of a cluster's assets

@@ -4,7 +4,7 @@ use mathlib.Core.List.{List, [], _∷_}
 use Prim.Native.Nat.{ℕ, _+_, _*_, _^_}
 use lib.Count.{trailingZeros}
 use lib.Ieee.{div, ofInt, ofBits, ofFields, odd, round, units, size, span, climb}
-use Rattle.arithmetic.specs.Arithmetic.{oneOver}
+use Rattle.arithmetic.specs.Arithmetic.{countOf, oneOver}
 use Rattle.arithmetic.specs.Exact.{unitsOf}
 use Rattle.tree.specs.Tree.{grow, treeAt, leaves}
 use Rattle.equal.specs.Clusters.{Cluster, cut, clusters}
@@ -24,5 +24,5 @@ figures = refl
 
 -- 49 assets in one cluster are 23/32 of 2^-53 short of one: a bound of 2^-54 would be false
 pub farthest : 49 * unitsOf (oneOver 49) + 23 * 2 ^ 1016 ≡ 2 ^ 1074
-unfolding oneOver div ofInt ofBits ofFields odd trailingZeros round units size span climb
+unfolding countOf oneOver div ofInt ofBits ofFields odd trailingZeros round units size span climb
 farthest = refl

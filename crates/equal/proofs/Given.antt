@@ -17,7 +17,7 @@ use lib.Seq.{getD-set-same, getD-set-other}
 use lib.Ieee.{Float, nan, binary64, mul, sub, div, lt, ofInt, ofBits, ofFields, odd, round, units, size, span, climb}
 use borrow.Author.Tests.{eq-eqb, ne-eqb}
 use Rattle.arithmetic.specs.Constants.{unit, half}
-use Rattle.arithmetic.specs.Arithmetic.{oneOver, clampOf, finiteOf}
+use Rattle.arithmetic.specs.Arithmetic.{countOf, oneOver, clampOf, finiteOf}
 use Rattle.arithmetic.specs.Exact.{unitsOf, halves}
 use Rattle.arithmetic.proofs.Units.{plain-is, units-alone}
 use Rattle.arithmetic.proofs.Halves.{other-half, halves-plain, halves-units}
@@ -26,15 +26,15 @@ use Rattle.lent.specs.Count.{count}
 use Rattle.lent.proofs.Counting.{one-true, one-false, count-append}
 use Rattle.tree.specs.Tree.{Tree, leaf, fork, leaves}
 use Rattle.clusters.specs.Clusters.{varianceAnswer}
-use Rattle.clusters.specs.Shares.{Shares, some, andThen, weightsIn}
+use Rattle.clusters.specs.Shares.{Shares, some, withShares, weightsIn}
 use Rattle.clusters.specs.Shares as shares
 use Rattle.clusters.specs.declared.Risk.{Risk}
 use Rattle.clusters.specs.declared.Risk.the-variants as risk
-use Rattle.sharing.specs.declared.Metric.the-variants.{EqualWeighting}
-use Rattle.sharing.specs.declared.Split.{Split}
-use Rattle.sharing.specs.declared.Splitting.{Splitting}
-use Rattle.sharing.specs.declared.Splitting.the-variants as splitting
-use Rattle.sharing.specs.Split.{Inputs, bounded, splitBy, scored, bothOf, splitOf}
+use Rattle.metrics.specs.declared.Metric.the-variants.{EqualWeighting}
+use Rattle.metrics.specs.declared.Split.{Split}
+use Rattle.metrics.specs.declared.Splitting.{Splitting}
+use Rattle.metrics.specs.declared.Splitting.the-variants as splitting
+use Rattle.sharing.specs.Split.{Inputs, bounded, splitBy, scored, splitOfBoth, splitOf}
 use Rattle.sharing.specs.Allot.{splits, spreadOf, equalOf, insideOf, onward, allotted}
 use Rattle.equal.specs.Clusters.{Cluster, cut}
 use Rattle.equal.specs.Equal.{weight, portion}
@@ -50,7 +50,7 @@ split-some : (x : Splitting) (g : Split → Shares) (out : List Float) → onwar
 split-some (splitting.Refused r) g out e = absurd (let z : _≡_ {A = ℕ} 0 1 = cc in omega arith)
 split-some (splitting.By s) g out e = (s, refl, e)
 
-then-some : (x : Shares) (g : List Float → Shares) (out : List Float) → andThen x g ≡ some out → (mid : List Float) × (x ≡ some mid) × (g mid ≡ some out)
+then-some : (x : Shares) (g : List Float → Shares) (out : List Float) → withShares x g ≡ some out → (mid : List Float) × (x ≡ some mid) × (g mid ≡ some out)
 then-some shares.none g out e = absurd (let z : _≡_ {A = ℕ} 0 1 = cc in omega arith)
 then-some (some mid) g out e = (mid, refl, e)
 
@@ -60,7 +60,7 @@ abbrev factorIn : Splitting → Float
 factorIn (splitting.Refused r) = half
 factorIn (splitting.By s) = s .factor
 
-all-same : (v u : Risk) (f : Float → Float → Split) → ((a b : Float) → f a b .factor ≡ half) → factorIn (bothOf v u f) ≡ half
+all-same : (v u : Risk) (f : Float → Float → Split) → ((a b : Float) → f a b .factor ≡ half) → factorIn (splitOfBoth v u f) ≡ half
 all-same (risk.Refused r) u f h = refl
 all-same (risk.Of a) (risk.Refused r) f h = refl
 all-same (risk.Of a) (risk.Of b) f h = h a b
@@ -121,7 +121,7 @@ spread-length (x ∷ ms) w ws = spread-length ms w (set ws x w) ∙ length-set w
 -- ---- a share times the double nearest 1/1
 
 one-units : unitsOf (oneOver 1) ≡ 2 ^ 1074
-unfolding oneOver div ofInt ofBits ofFields odd trailingZeros round units size span climb
+unfolding countOf oneOver div ofInt ofBits ofFields odd trailingZeros round units size span climb
 one-units = refl
 
 times-one : (d : ℕ) → d ≤ 63 → mul binary64 (halves d) (oneOver 1) ≡ halves d

@@ -16,7 +16,7 @@ use Rattle.lent.specs.Count.{one, upto, overAll}
 use Rattle.lent.proofs.Counting.{over-all-snoc, over-all-upto, upto-ones}
 use Rattle.tree.specs.Rows.{isTree}
 use Rattle.tree.specs.Tree.{Tree, leaf, fork, left, right, treeAt}
-use Rattle.tree.specs.Walk.{OnTree}
+use Rattle.tree.specs.Inner.{OnTree}
 use Rattle.tree.proofs.Rows.{IsTree, is-tree}
 use Rattle.tree.proofs.Tree.{tree-leaf, tree-on, left-falls, right-falls}
 use Rattle.sharing.specs.Allot.{splits}

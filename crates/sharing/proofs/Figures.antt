@@ -1,11 +1,11 @@
--- Figures for sharing down given merge rows, and for the names of metrics, computed as one table. Assumes nothing.
+-- Figures for sharing down given merge rows, computed as one table. Assumes nothing.
 use Prim.Native.Nat.{ℕ}
 use mathlib.Core.Path.{_≡_, refl}
 use mathlib.Core.Bool.{Bool, true, false, _&&_}
 use mathlib.Core.List.{List, [], _∷_, _++_, map}
 use lib.Count.{trailingZeros}
 use lib.Ieee.{Float, binary64, ofBits, ofFields, toBits, add, sum, round, size, span, climb, units, odd, sub, neg, mul, div, ofInt, lt, le, eq, isNan}
-use Rattle.arithmetic.specs.Arithmetic.{maxOf, clampOf, finiteOf, oneOver}
+use Rattle.arithmetic.specs.Arithmetic.{maxOf, clampOf, finiteOf, countOf, oneOver}
 use Rattle.arithmetic.specs.Root.{root, isqrt}
 use Rattle.refusal.specs.Refusal.{numberOf, valuesOf}
 use Rattle.refusal.specs.Table.{first}
@@ -14,22 +14,19 @@ use Rattle.lent.specs.Grid.{tab, sumTo, sumOn, sumRows, anyTo}
 use Rattle.lent.specs.Lent.{overLimit, otherLength, laid, answerOf}
 use Rattle.lent.specs.declared.Answer.{Answer}
 use Rattle.lent.specs.declared.Answer.the-variants as answer
-use Rattle.text.specs.Bytes.{bytes, same}
+use Rattle.text.specs.Bytes.{same}
 use Rattle.tree.specs.Rows.{below, once, isTree}
 use Rattle.tree.specs.Tree.{grow, treeAt, leaves}
-use Rattle.clusters.specs.Clusters.{recip, recipSum, shares, term, varianceOf, expectation, ratio, outside, anyLow, riskTable, sizeTable, sharesOutcome, varianceOutcome, varianceAnswer}
-use Rattle.clusters.specs.Shares.{isNone, weightsIn}
+use Rattle.clusters.specs.Clusters.{recip, recipSum, shares, term, varianceOf, expectation, ratio, outside, anyListedLow, riskTable, sizeTable, sharesOutcome, varianceOutcome, varianceAnswer}
+use Rattle.clusters.specs.Shares.{factorOf, isNone, weightsIn}
 use Rattle.ordering.specs.Order as order
 use Rattle.ordering.specs.Nearest.{wholeOf, place, quantile, noPart}
 use Rattle.tails.specs.Tail.{gain, rowReturn, tailSum, tailCount, mean, shortfall, wealth, higher, peak, fall, drawdown, conditionalDrawdown, shortfallOf, drawdownOf}
-use Rattle.sharing.specs.declared.Metric.{Metric}
-use Rattle.sharing.specs.declared.Metric.the-variants.{MinimumVariance, MinimumStandardDeviation, SharpeRatio, EqualWeighting, ExpectedShortfall, ConditionalDrawdownRisk}
-use Rattle.sharing.specs.declared.NamedMetric.{NamedMetric}
-use Rattle.sharing.specs.declared.NamedMetric.the-variants as metric
-use Rattle.sharing.specs.Names.{metricNamed}
-use Rattle.sharing.specs.Split.{Inputs, inputs, bounded, splitBy, byRisk, fair, byRatio, scored, splitOf}
-use Rattle.sharing.specs.Allot.{spreadOf, equalOf, dealTo, variedOf, insideOf, allotted, sharesOf}
-use Rattle.sharing.specs.Down.{isSharpe, isTailRisk, tailLines, otherRows, Call, call, callTable, downTable, downOutcome, downAnswer, downWeights}
+use Rattle.metrics.specs.declared.Metric.{Metric}
+use Rattle.metrics.specs.declared.Metric.the-variants.{MinimumVariance, MinimumStandardDeviation, SharpeRatio, EqualWeighting, ExpectedShortfall}
+use Rattle.metrics.specs.Split.{Inputs, inputs, bounded, splitBy, byRisk, fair, byRatio, scored, splitOf}
+use Rattle.sharing.specs.Allot.{spreadOf, equalOf, dealTo, variedOf, insideOf, allotted, downShares}
+use Rattle.sharing.specs.Down.{isSharpe, isTailRisk, DownCall, downCall, downSizeLines, downRuleLines, downGiven, downTable, downOutcome, downAnswer, downWeights}
 
 abbrev all : List Bool → Bool
 all [] = true
@@ -41,10 +38,10 @@ told-of (answer.Matrix r c) = 0 ∷ r ∷ c ∷ []
 told-of (answer.Refused r) = numberOf r ∷ valuesOf r
 
 -- and the bits of the buffer
-abbrev shared : Call → ℕ → List ℕ
+abbrev shared : DownCall → ℕ → List ℕ
 shared q room = told-of (downAnswer q room 8192) ++ map (toBits binary64) (downWeights q room 8192)
 
--- the bits of 0, 1, 0.5, 0.25, 0.75, the double nearest 1/3, 3, 9, −1, −3, infinity and NaN
+-- the bits of 0, 1, 0.5, 0.25, 0.75, the double nearest 1/3, 3, 9, −1, −3, 2^-60, infinity and NaN
 abbrev p0 : ℕ
 p0 = 0
 
@@ -75,6 +72,9 @@ minus = 0xbff0_0000_0000_0000
 abbrev minus-three : ℕ
 minus-three = 0xc008_0000_0000_0000
 
+abbrev tiny : ℕ
+tiny = 0x3c30_0000_0000_0000
+
 abbrev big : ℕ
 big = 0x7ff0_0000_0000_0000
 
@@ -89,26 +89,16 @@ abbrev expecting : List ℕ → Inputs
 expecting xs = inputs (floats xs) [] 0 (ofBits binary64 p0)
 
 -- the job of document 01: A and B are 0.5 apart, C is alone
-abbrev job : ℕ → Call
-job k = call EqualWeighting (expecting []) false 0 (floats (one ∷ half ∷ p0 ∷ half ∷ one ∷ p0 ∷ p0 ∷ p0 ∷ one ∷ [])) 3 3 (0 ∷ 1 ∷ 2 ∷ 3 ∷ []) 3 k
+abbrev job : ℕ → DownCall
+job k = downCall EqualWeighting (expecting []) false 0 (floats (one ∷ half ∷ p0 ∷ half ∷ one ∷ p0 ∷ p0 ∷ p0 ∷ one ∷ [])) 3 3 (0 ∷ 1 ∷ 2 ∷ 3 ∷ []) 3 k
 
 -- two assets, 0 off the diagonal
-abbrev pair : Metric → List ℕ → Bool → ℕ → ℕ → ℕ → Call
-pair m expected given a b k = call m (expecting expected) given 0 (floats (a ∷ p0 ∷ p0 ∷ b ∷ [])) 2 2 (0 ∷ 1 ∷ []) 2 k
+abbrev pair : Metric → List ℕ → Bool → ℕ → ℕ → ℕ → DownCall
+pair m expected given a b k = downCall m (expecting expected) given 0 (floats (a ∷ p0 ∷ p0 ∷ b ∷ [])) 2 2 (0 ∷ 1 ∷ []) 2 k
 
 -- two assets of variance 1, 0 off the diagonal, and rows of two returns
-abbrev risky : Metric → List ℕ → ℕ → ℕ → Call
-risky m returns rows confidence = call m (inputs [] (floats returns) rows (ofBits binary64 confidence)) false 2 (floats (one ∷ p0 ∷ p0 ∷ one ∷ [])) 2 2 (0 ∷ 1 ∷ []) 2 2
-
--- 1 to 6 for the metrics, in the order of the source's names; or 0 and the refusal's number
-abbrev named : NamedMetric → List ℕ
-named (metric.Of MinimumVariance) = 1 ∷ []
-named (metric.Of MinimumStandardDeviation) = 2 ∷ []
-named (metric.Of SharpeRatio) = 3 ∷ []
-named (metric.Of EqualWeighting) = 4 ∷ []
-named (metric.Of ExpectedShortfall) = 5 ∷ []
-named (metric.Of ConditionalDrawdownRisk) = 6 ∷ []
-named (metric.Refused r) = 0 ∷ numberOf r ∷ []
+abbrev risky : Metric → List ℕ → ℕ → ℕ → DownCall
+risky m returns rows confidence = downCall m (inputs [] (floats returns) rows (ofBits binary64 confidence)) false 2 (floats (one ∷ p0 ∷ p0 ∷ one ∷ [])) 2 2 (0 ∷ 1 ∷ []) 2 2
 
 abbrev figure-list : List Bool
 figure-list =
@@ -122,7 +112,7 @@ figure-list =
     ∷ same (shared (pair EqualWeighting [] false big one 2) 2) (1 ∷ p0 ∷ p0 ∷ [])
     ∷ same (shared (pair EqualWeighting [] false big one 1) 2) (0 ∷ 1 ∷ 2 ∷ half ∷ half ∷ [])
     -- a variance that neither a side nor a cut by inverse variance reads is not looked at
-    ∷ same (shared (call MinimumVariance (expecting []) false 0 (floats (minus ∷ [])) 1 1 [] 1 1) 1) (0 ∷ 1 ∷ 1 ∷ one ∷ [])
+    ∷ same (shared (downCall MinimumVariance (expecting []) false 0 (floats (minus ∷ [])) 1 1 [] 1 1) 1) (0 ∷ 1 ∷ 1 ∷ one ∷ [])
     ∷ same (shared (pair EqualWeighting [] false minus one 1) 2) (0 ∷ 1 ∷ 2 ∷ half ∷ half ∷ [])
     ∷ same (shared (pair MinimumVariance [] false minus one 1) 2) (1 ∷ p0 ∷ p0 ∷ [])
     -- the factors
@@ -130,6 +120,8 @@ figure-list =
     ∷ same (shared (pair MinimumStandardDeviation [] false one nine 2) 2) (0 ∷ 1 ∷ 2 ∷ most ∷ quarter ∷ [])
     ∷ same (shared (pair SharpeRatio (one ∷ three ∷ []) true one one 2) 2) (0 ∷ 1 ∷ 2 ∷ quarter ∷ most ∷ [])
     ∷ same (shared (pair SharpeRatio (minus ∷ three ∷ []) true one one 2) 2) (0 ∷ 1 ∷ 2 ∷ half ∷ half ∷ [])
+    -- EPSILON counts: (2^-60, 2^-60)
+    ∷ same (shared (pair MinimumVariance [] false tiny tiny 2) 2) (0 ∷ 1 ∷ 2 ∷ 0x3fef_e03f_80fe_03f8 ∷ 0x3f6f_c07f_01fc_0800 ∷ [])
     -- expected returns are one too few, or absent: 3, and 4 before 6
     ∷ same (shared (pair SharpeRatio (one ∷ []) true one one 2) 2) (3 ∷ p0 ∷ p0 ∷ [])
     ∷ same (shared (pair SharpeRatio [] false one one 0) 2) (4 ∷ p0 ∷ p0 ∷ [])
@@ -137,15 +129,8 @@ figure-list =
     ∷ same (shared (risky ExpectedShortfall (minus-three ∷ minus ∷ one ∷ minus ∷ []) 2 half) 2) (0 ∷ 1 ∷ 2 ∷ quarter ∷ most ∷ [])
     ∷ same (shared (risky ExpectedShortfall [] 0 no-number) 2) (16 ∷ p0 ∷ p0 ∷ [])
     ∷ same (shared (risky ExpectedShortfall (minus-three ∷ minus ∷ one ∷ minus ∷ []) 2 no-number) 2) (17 ∷ p0 ∷ p0 ∷ [])
-    ∷ same (named (metricNamed (bytes "minimum_variance"))) (1 ∷ [])
-    ∷ same (named (metricNamed (bytes "minimum_standard_deviation"))) (2 ∷ [])
-    ∷ same (named (metricNamed (bytes "sharpe_ratio"))) (3 ∷ [])
-    ∷ same (named (metricNamed (bytes "equal_weighting"))) (4 ∷ [])
-    ∷ same (named (metricNamed (bytes "Equal_weighting"))) (0 ∷ 2 ∷ [])
-    ∷ same (named (metricNamed (bytes "expected_shortfall"))) (5 ∷ [])
-    ∷ same (named (metricNamed (bytes "conditional_drawdown_risk"))) (6 ∷ [])
     ∷ []
 
 pub figures : all figure-list ≡ true
-unfolding same metricNamed isSharpe isTailRisk tailLines otherRows order.minus order.before order.insert order.insertAll order.sorted wholeOf place quantile noPart gain rowReturn tailSum tailCount mean shortfall wealth higher peak fall drawdown conditionalDrawdown shortfallOf drawdownOf callTable downTable downOutcome downAnswer downWeights sharesOf allotted insideOf variedOf equalOf spreadOf dealTo splitOf scored byRisk byRatio fair splitBy bounded isNone weightsIn recip recipSum shares term varianceOf expectation ratio outside anyLow riskTable sizeTable sharesOutcome varianceOutcome varianceAnswer first count below once isTree grow treeAt leaves tab sumTo sumOn sumRows anyTo overLimit otherLength laid answerOf maxOf clampOf finiteOf oneOver root isqrt lt le eq isNan add sum sub neg mul div ofInt round units odd trailingZeros size span climb ofFields ofBits toBits
+unfolding same isSharpe isTailRisk order.hasMinus order.before order.insert order.insertAll order.sorted wholeOf place quantile noPart gain rowReturn tailSum tailCount mean shortfall wealth higher peak fall drawdown conditionalDrawdown shortfallOf drawdownOf downSizeLines downRuleLines downGiven downTable downOutcome downAnswer downWeights downShares allotted insideOf variedOf equalOf spreadOf dealTo splitOf scored factorOf byRisk byRatio fair splitBy bounded isNone weightsIn recip recipSum shares term varianceOf expectation ratio outside anyListedLow riskTable sizeTable sharesOutcome varianceOutcome varianceAnswer first count below once isTree grow treeAt leaves tab sumTo sumOn sumRows anyTo overLimit otherLength laid answerOf maxOf clampOf finiteOf countOf oneOver root isqrt lt le eq isNan add sum sub neg mul div ofInt round units odd trailingZeros size span climb ofFields ofBits toBits
 figures = refl

@@ -13,7 +13,7 @@ use lib.ListN.{length, set, take, drop, getD-replicate, length-set, length-repli
 use lib.Seq.{length-take-le, ext-getD, getD-take}
 use lib.Ieee.{Float, binary64, mul, sub}
 use Rattle.arithmetic.specs.Constants.{pz, unit}
-use Rattle.refusal.specs.Table.{Line, first, orElse}
+use Rattle.refusal.specs.Table.{Line, first, orElse, andThen}
 use Rattle.refusal.specs.declared.Refusal.{Refusal}
 use Rattle.refusal.specs.declared.Refusal.the-variants.{NoData, DimensionMismatch, MissingExpectedReturnsForSharpe, InvalidNumClusters, OverLimit, SliceLength, ShortBuffer, NoTree, MissingReturnsForTailRisk, ConfidenceOutOfRange}
 use Rattle.refusal.specs.declared.Outcome.{Outcome}
@@ -28,19 +28,21 @@ use Rattle.lent.proofs.Sizes.{over-cells, same-length, laid-refused}
 use Rattle.ordering.specs.Nearest.{noPart}
 use Rattle.tree.specs.Rows.{isTree}
 use Rattle.tree.specs.Tree.{Tree, leaf, fork, treeAt, leaves}
-use Rattle.clusters.specs.Shares.{Shares, some, told, isNone, weightsIn}
+use Rattle.clusters.specs.Shares.{Shares, some, isNone, weightsIn}
+use Rattle.clusters.specs.Inner.{told}
 use Rattle.clusters.specs.Shares as shares
 use Rattle.clusters.specs.Clusters.{sharesOutcome}
 use Rattle.clusters.specs.Clusters as inverse
-use Rattle.sharing.specs.declared.Metric.{Metric}
-use Rattle.sharing.specs.declared.Metric.the-variants.{MinimumVariance, MinimumStandardDeviation, SharpeRatio, EqualWeighting, ExpectedShortfall, ConditionalDrawdownRisk}
-use Rattle.sharing.specs.declared.Split.{Split}
-use Rattle.sharing.specs.declared.Splitting.{Splitting}
-use Rattle.sharing.specs.declared.Splitting.the-variants as splitting
-use Rattle.sharing.specs.Split.{Inputs, splitOf}
-use Rattle.sharing.specs.Allot.{splits, spreadOf, equalOf, dealTo, ifDone, variedOf, insideOf, onward, allotted, allottedAt, sharesOf}
-use Rattle.sharing.specs.Down.{isSharpe, isTailRisk, tailLines, otherRows, Call, callTable, downTable, downOutcome, downAnswer, downWeights}
-use Rattle.sharing.specs.Walk.{Below, Front, Tailed, Blank, Down}
+use Rattle.metrics.specs.declared.Metric.{Metric}
+use Rattle.metrics.specs.declared.Metric.the-variants.{MinimumVariance, MinimumStandardDeviation, SharpeRatio, EqualWeighting, ExpectedShortfall, ConditionalDrawdownRisk}
+use Rattle.metrics.specs.declared.Split.{Split}
+use Rattle.metrics.specs.declared.Splitting.{Splitting}
+use Rattle.metrics.specs.declared.Splitting.the-variants as splitting
+use Rattle.metrics.specs.Split.{Inputs, splitOf}
+use Rattle.sharing.specs.Allot.{splits, spreadOf, equalOf, dealTo, ifDone, variedOf, insideOf, onward, allotted, allottedAt, downShares}
+use Rattle.sharing.specs.Down.{isSharpe, isTailRisk, otherRows, DownCall, DownSizes, downSizeLines, DownRules, downRuleLines, downSizes, downRules, downGiven, downTable, downOutcome, downAnswer, downWeights}
+use Rattle.sharing.specs.Inner.{Below, Front, Blank, Down}
+use Rattle.metrics.specs.Inner.{Tailed}
 
 -- ---- sharing keeps the number of weights
 
@@ -66,7 +68,7 @@ onward-keeps : (s : Splitting) (f : Split → Shares) (m : ℕ) → ((x : Split)
 onward-keeps (splitting.Refused r) f m h = tt
 onward-keeps (splitting.By x) f m h = h x
 
-then-keeps : (s : Shares) (f : List Float → Shares) (m : ℕ) → Keeps s m → ((mid : List Float) → length mid ≡ m → Keeps (f mid) m) → Keeps (shares.andThen s f) m
+then-keeps : (s : Shares) (f : List Float → Shares) (m : ℕ) → Keeps s m → ((mid : List Float) → length mid ≡ m → Keeps (f mid) m) → Keeps (shares.withShares s f) m
 then-keeps shares.none f m p h = tt
 then-keeps (some ws) f m p h = h ws p
 
@@ -100,14 +102,14 @@ unfolding isNone weightsIn
 kept-of shares.none m p e = absurd (let z : _≡_ {A = ℕ} 0 1 = cc in omega arith)
 kept-of (some ws) m p e = (refl, p)
 
-shares-keeps : (metric : Metric) (x : Inputs) (cov : List Float) (rows : List ℕ) (n k : ℕ) → Keeps (sharesOf metric x cov rows n k) n
-unfolding sharesOf
+shares-keeps : (metric : Metric) (x : Inputs) (cov : List Float) (rows : List ℕ) (n k : ℕ) → Keeps (downShares metric x cov rows n k) n
+unfolding downShares
 shares-keeps metric x cov rows n k =
     allot-keeps metric x cov n k (treeAt rows n (2 * n - 2)) (splits n k (treeAt rows n (2 * n - 2))) unit (zeros n) n (length-replicate n pz)
 
-pub shares-length : (metric : Metric) (x : Inputs) (cov : List Float) (rows : List ℕ) (n k : ℕ) → isNone (sharesOf metric x cov rows n k) ≡ false
-    → (sharesOf metric x cov rows n k ≡ some (weightsIn (sharesOf metric x cov rows n k))) × (length (weightsIn (sharesOf metric x cov rows n k)) ≡ n)
-shares-length metric x cov rows n k e = kept-of (sharesOf metric x cov rows n k) n (shares-keeps metric x cov rows n k) e
+pub shares-length : (metric : Metric) (x : Inputs) (cov : List Float) (rows : List ℕ) (n k : ℕ) → isNone (downShares metric x cov rows n k) ≡ false
+    → (downShares metric x cov rows n k ≡ some (weightsIn (downShares metric x cov rows n k))) × (length (weightsIn (downShares metric x cov rows n k)) ≡ n)
+shares-length metric x cov rows n k e = kept-of (downShares metric x cov rows n k) n (shares-keeps metric x cov rows n k) e
 
 -- ---- what a call of `share` told
 
@@ -132,7 +134,7 @@ pub record Feeding (x : Inputs) (w n : ℕ) : Type 0 where
   pub part : noPart (x .confidence) ≡ false
 
 -- what the call's lines find right
-pub record Right (q : Call) (room scratch : ℕ) : Type 0 where
+pub record Right (q : DownCall) (room scratch : ℕ) : Type 0 where
   pub some : 1 ≤ q .assets
   pub most : q .assets ≤ 64
   pub height : q .covariance-rows ≡ q .assets
@@ -189,11 +191,11 @@ unfolding first
 all-no [] p = refl
 all-no ((t, r) ∷ l) p = table-pass t r l (p .0) ∙ all-no l (p .1)
 
-module _ (q : Call) (room scratch : ℕ) where
-  pub call-right : first (callTable q room scratch) ≡ Done → Right q room scratch
-  unfolding callTable tailLines
+module _ (q : DownCall) (room scratch : ℕ) where
+  pub call-right : first (downGiven q room scratch) ≡ Done → Right q room scratch
+  unfolding downGiven downSizeLines downRuleLines otherRows
   call-right e =
-      let a = none (callTable q room scratch) e in
+      let a = none (downGiven q room scratch) e in
       let s = neither _ _ (a .1 .1 .1 .1 .1 .1 .1 .0) in
       let k = neither _ _ (a .1 .1 .1 .1 .1 .1 .1 .1 .1 .1 .1 .1 .1 .1 .1 .0) in
       let h = same-number (q .covariance-rows) (q .assets) (s .0) in
@@ -234,14 +236,14 @@ module _ (q : Call) (room scratch : ℕ) where
     unfolding otherLength
     whole-returns = rw (eq-eqb (length (q .inputs .returns)) (q .inputs .return-rows * q .return-columns) (p .returns))
 
-    pub right-passes : first (callTable q room scratch) ≡ Done
-    unfolding callTable tailLines otherRows
+    pub right-passes : first (downGiven q room scratch) ≡ Done
+    unfolding downGiven downSizeLines downRuleLines
     right-passes =
         let x = expected-right (isSharpe (q .metric)) (q .expected-given) (length (q .inputs .expected)) (q .assets) (p .expects) in
         let f = fed-right (isTailRisk (q .metric)) (q .inputs) (q .return-columns) (q .assets) (p .feeds) in
         let one : 1 ≤ q .assets = p .some in
         let two : 1 ≤ q .clusters = p .least in
-        all-no (callTable q room scratch) (le-ltb 64 (q .assets) (p .most), (small, (p .limits, (whole, (whole-returns, (le-ltb room (q .assets) (p .fits), (le-ltb scratch 8192 (p .enough), (rw (eq-eqb (q .covariance-rows) (q .assets) (p .height), eq-eqb (q .covariance-columns) (q .assets) (p .width)), (x .0, (f .0, (ne-eqb (q .assets) 0 (λ e. omega arith), (rw (p .tree), (x .1, (f .1, (f .2, (rw (ne-eqb (q .clusters) 0 (λ e. omega arith), le-ltb (q .assets) (q .clusters) (p .cut)), tt))))))))))))))))
+        all-no (downGiven q room scratch) (le-ltb 64 (q .assets) (p .most), (small, (p .limits, (whole, (whole-returns, (le-ltb room (q .assets) (p .fits), (le-ltb scratch 8192 (p .enough), (rw (eq-eqb (q .covariance-rows) (q .assets) (p .height), eq-eqb (q .covariance-columns) (q .assets) (p .width)), (x .0, (f .0, (ne-eqb (q .assets) 0 (λ e. omega arith), (rw (p .tree), (x .1, (f .1, (f .2, (rw (ne-eqb (q .clusters) 0 (λ e. omega arith), le-ltb (q .assets) (q .clusters) (p .cut)), tt))))))))))))))))
 
     -- what the two measures ask
     pub right-tailed : isTailRisk (q .metric) ≡ true → Tailed (q .inputs .returns) (q .inputs .return-rows) (q .inputs .confidence) (q .assets)
@@ -257,21 +259,21 @@ module _ (q : Call) (room scratch : ℕ) where
   -- ---- the recursion's own line, and the answer
 
   abbrev given : Shares
-  given = sharesOf (q .metric) (q .inputs) (q .covariance) (q .rows) (q .assets) (q .clusters)
+  given = downShares (q .metric) (q .inputs) (q .covariance) (q .rows) (q .assets) (q .clusters)
 
-  pub down-as-shares : Right q room scratch → downOutcome q room scratch ≡ first ((isNone (sharesOf (q .metric) (q .inputs) (q .covariance) (q .rows) (q .assets) (q .clusters)), NoData) ∷ [])
+  pub down-as-shares : Right q room scratch → downOutcome q room scratch ≡ first ((isNone (downShares (q .metric) (q .inputs) (q .covariance) (q .rows) (q .assets) (q .clusters)), NoData) ∷ [])
   unfolding downOutcome downTable
-  down-as-shares p = first-done (callTable q room scratch) ((isNone given, NoData) ∷ []) (right-passes p)
+  down-as-shares p = first-done (downGiven q room scratch) ((isNone given, NoData) ∷ []) (right-passes p)
 
   pub record Accepted : Type 0 where
     pub right : Right q room scratch
-    pub weights : sharesOf (q .metric) (q .inputs) (q .covariance) (q .rows) (q .assets) (q .clusters) ≡ some (weightsIn (sharesOf (q .metric) (q .inputs) (q .covariance) (q .rows) (q .assets) (q .clusters)))
-    pub size : length (weightsIn (sharesOf (q .metric) (q .inputs) (q .covariance) (q .rows) (q .assets) (q .clusters))) ≡ q .assets
+    pub weights : downShares (q .metric) (q .inputs) (q .covariance) (q .rows) (q .assets) (q .clusters) ≡ some (weightsIn (downShares (q .metric) (q .inputs) (q .covariance) (q .rows) (q .assets) (q .clusters)))
+    pub size : length (weightsIn (downShares (q .metric) (q .inputs) (q .covariance) (q .rows) (q .assets) (q .clusters))) ≡ q .assets
 
   pub down-accepted : downOutcome q room scratch ≡ Done → Accepted
   unfolding downOutcome downTable
   down-accepted e =
-      let d = both-done (first (callTable q room scratch)) (first ((isNone given, NoData) ∷ [])) (sym (first-append (callTable q room scratch) ((isNone given, NoData) ∷ [])) ∙ e) in
+      let d = both-done (first (downGiven q room scratch)) (first ((isNone given, NoData) ∷ [])) (sym (first-append (downGiven q room scratch) ((isNone given, NoData) ∷ [])) ∙ e) in
       let l = shares-length (q .metric) (q .inputs) (q .covariance) (q .rows) (q .assets) (q .clusters) (none ((isNone given, NoData) ∷ []) (d .1) .0) in
       record { right = call-right (d .0); weights = l .0; size = l .1 }
 
@@ -279,26 +281,26 @@ module _ (q : Call) (room scratch : ℕ) where
   unfolding downAnswer downWeights
   answered-as said o a out d s e z = (rw (d, ← s) e, rw d z)
 
-  module _ (said : Outcome) (e : said ≡ first (callTable q room scratch)) where
+  module _ (said : Outcome) (e : said ≡ first (downGiven q room scratch)) where
     -- before anything was shared out
     pub down-refused : (r : Refusal) (a : Answer) (out : List Float) → said ≡ Refused r → a ≡ answerOf said 1 (q .assets) → out ≡ zeros room → (a ≡ downAnswer q room scratch) × (out ≡ downWeights q room scratch)
     unfolding downOutcome downTable
     down-refused r a out h g z =
-        answered-as said (Refused r) a out (first-refused (callTable q room scratch) ((isNone given, NoData) ∷ []) r (sym e ∙ h)) h g (z ∙ laid-refused pz (Refused r) r room (weightsIn given) refl)
+        answered-as said (Refused r) a out (first-refused (downGiven q room scratch) ((isNone given, NoData) ∷ []) r (sym e ∙ h)) h g (z ∙ laid-refused pz (Refused r) r room (weightsIn given) refl)
 
     module _ (h : said ≡ Done) where
       pub said-right : Right q room scratch
       said-right = call-right (sym e ∙ h)
 
       -- sharing refused, and the buffer was cleared
-      pub down-none : (t : Bool) (part out : List Float) (len : ℕ) → told t part ≡ sharesOf (q .metric) (q .inputs) (q .covariance) (q .rows) (q .assets) (q .clusters) → t ≡ false → out ≡ zeros len → len ≡ room
+      pub down-none : (t : Bool) (part out : List Float) (len : ℕ) → told t part ≡ downShares (q .metric) (q .inputs) (q .covariance) (q .rows) (q .assets) (q .clusters) → t ≡ false → out ≡ zeros len → len ≡ room
           → (answer.Refused NoData ≡ downAnswer q room scratch) × (out ≡ downWeights q room scratch)
       unfolding answerOf
       down-none t part out len g f z l =
           answered-as (Refused NoData) (Refused NoData) (answer.Refused NoData) out (down-as-shares said-right ∙ table-hit _ _ _ (told-none t part given g f)) refl refl (z ∙ ap zeros l ∙ laid-refused pz (Refused NoData) NoData room (weightsIn given) refl)
 
       -- weights in the front of a cleared buffer
-      pub down-some : (t : Bool) (part blank out : List Float) (a : Answer) → told t part ≡ sharesOf (q .metric) (q .inputs) (q .covariance) (q .rows) (q .assets) (q .clusters) → t ≡ true
+      pub down-some : (t : Bool) (part blank out : List Float) (a : Answer) → told t part ≡ downShares (q .metric) (q .inputs) (q .covariance) (q .rows) (q .assets) (q .clusters) → t ≡ true
           → a ≡ answerOf said 1 (q .assets) → blank ≡ zeros room → out ≡ part ++ drop (q .assets) blank → length part ≡ q .assets → (a ≡ downAnswer q room scratch) × (out ≡ downWeights q room scratch)
       down-some t part blank out a g f k b o l =
           let w = told-some t part given g f in
@@ -317,10 +319,10 @@ take-zeros n m h =
 pub front-zeros : (blank : List Float) (n room : ℕ) → blank ≡ zeros room → n ≤ room → take n blank ≡ zeros n
 front-zeros blank n room e h = rw e (take-zeros n room h)
 
-pub root : (q : Call) (room scratch : ℕ) → Right q room scratch → Below (q .rows) (q .assets) (2 * q .assets - 2)
+pub root : (q : DownCall) (room scratch : ℕ) → Right q room scratch → Below (q .rows) (q .assets) (2 * q .assets - 2)
 root q room scratch p = record { on = record { some = p .some; tree = p .tree; node = le-refl (2 * q .assets - 2) }; most = p .most }
 
-module _ (q : Call) (room scratch : ℕ) (p : Right q room scratch) (blank : List Float) (e : blank ≡ zeros room) where
+module _ (q : DownCall) (room scratch : ℕ) (p : Right q room scratch) (blank : List Float) (e : blank ≡ zeros room) where
   blank-length : length blank ≡ room
   blank-length = ap length e ∙ length-replicate room pz
 
@@ -342,8 +344,8 @@ module _ (q : Call) (room scratch : ℕ) (p : Right q room scratch) (blank : Lis
   }
 
   pub down-shared : (s : Shares) → s ≡ allottedAt (q .metric) (q .inputs) (q .covariance) (q .rows) (q .assets) (q .clusters) (2 * q .assets - 2) unit (take (q .assets) blank)
-      → s ≡ sharesOf (q .metric) (q .inputs) (q .covariance) (q .rows) (q .assets) (q .clusters)
-  unfolding sharesOf
+      → s ≡ downShares (q .metric) (q .inputs) (q .covariance) (q .rows) (q .assets) (q .clusters)
+  unfolding downShares
   down-shared s h = h ∙ ap (allottedAt (q .metric) (q .inputs) (q .covariance) (q .rows) (q .assets) (q .clusters) (2 * q .assets - 2) unit) (front-zeros blank (q .assets) room e (p .fits))
 
   pub part-length : (part : List Float) → length part ≡ length (take (q .assets) blank) → length part ≡ q .assets
@@ -358,44 +360,55 @@ cleared-blank {after = after} m h e =
     let l : length after ≡ m = ap length e ∙ length-replicate m pz in
     record { enough = omega arith; zero = e ∙ ap zeros (sym l) }
 
--- ---- the lines as `judge` has them, the last one first
+-- ---- the lines as the two judges have them, the last one first
 
-module _ (q : Call) (room scratch : ℕ) where
-  pub judge-said : (sharpe tail missing wrong unexpected other present other-rows no-rows off no-part no-count tree ragged misfit many big : Bool) (o1 o2 o3 o4 o5 o6 o7 o8 o9 o10 o11 o12 o13 o14 o15 o16 : Outcome)
-      → sharpe ≡ isSharpe (q .metric)
-      → tail ≡ isTailRisk (q .metric)
-      → missing ≡ (sharpe && not (q .expected-given))
-      → wrong ≡ (q .expected-given && not (eqb (length (q .inputs .expected)) (q .assets)))
-      → unexpected ≡ (sharpe && wrong)
-      → other ≡ (not (eqb (q .covariance-rows) (q .assets)) || not (eqb (q .covariance-columns) (q .assets)))
-      → present ≡ (ltb 0 (q .inputs .return-rows) && not (eqb (q .return-columns) (q .assets)))
-      → other-rows ≡ (tail && present)
-      → no-rows ≡ (tail && eqb (q .inputs .return-rows) 0)
-      → off ≡ noPart (q .inputs .confidence)
-      → no-part ≡ (tail && off)
-      → no-count ≡ (eqb (q .clusters) 0 || ltb (q .assets) (q .clusters))
-      → tree ≡ isTree (q .rows) (q .assets)
-      → ragged ≡ otherLength (length (q .inputs .returns)) (q .inputs .return-rows) (q .return-columns)
-      → misfit ≡ otherLength (length (q .covariance)) (q .covariance-rows) (q .covariance-columns)
-      → many ≡ overLimit (q .inputs .return-rows) (q .return-columns)
-      → big ≡ overLimit (q .covariance-rows) (q .covariance-columns)
-      → o1 ≡ orElse no-count (InvalidNumClusters (q .clusters) (q .assets)) Done
-      → o2 ≡ orElse no-part ConfidenceOutOfRange o1
-      → o3 ≡ orElse no-rows MissingReturnsForTailRisk o2
-      → o4 ≡ orElse missing MissingExpectedReturnsForSharpe o3
-      → o5 ≡ orElse (not tree) NoTree o4
-      → o6 ≡ orElse (eqb (q .assets) 0) NoData o5
-      → o7 ≡ orElse other-rows DimensionMismatch o6
-      → o8 ≡ orElse unexpected DimensionMismatch o7
-      → o9 ≡ orElse other DimensionMismatch o8
-      → o10 ≡ orElse (ltb scratch 8192) ShortBuffer o9
-      → o11 ≡ orElse (ltb room (q .assets)) ShortBuffer o10
-      → o12 ≡ orElse ragged SliceLength o11
-      → o13 ≡ orElse misfit SliceLength o12
-      → o14 ≡ orElse many OverLimit o13
-      → o15 ≡ orElse big OverLimit o14
-      → o16 ≡ orElse (ltb 64 (q .assets)) OverLimit o15
-      → o16 ≡ first (callTable q room scratch)
-  unfolding callTable tailLines otherRows
-  judge-said sharpe tail missing wrong unexpected other present other-rows no-rows off no-part no-count tree ragged misfit many big o1 o2 o3 o4 o5 o6 o7 o8 o9 o10 o11 o12 o13 o14 o15 o16 p1 p2 p3 p4 p5 p6 p7 p8 p9 p10 p11 p12 p13 p14 p15 p16 p17 l1 l2 l3 l4 l5 l6 l7 l8 l9 l10 l11 l12 l13 l14 l15 l16 =
-      simp (table, table-end) (rw (l16, l15, l14, l13, l12, l11, l10, l9, l8, l7, l6, l5, l4, l3, l2, l1, p17, p16, p15, p14, p13, p12, p11, p10, p9, p8, p7, p6, p5, p4, p3, p2, p1))
+pub sizes-said : (s : DownSizes) (other ragged misfit many big : Bool) (o1 o2 o3 o4 o5 o6 o7 o8 : Outcome)
+    → other ≡ (not (eqb (s .covariance-rows) (s .assets)) || not (eqb (s .covariance-columns) (s .assets)))
+    → ragged ≡ otherLength (s .return-cells) (s .return-rows) (s .return-columns)
+    → misfit ≡ otherLength (s .covariance-cells) (s .covariance-rows) (s .covariance-columns)
+    → many ≡ overLimit (s .return-rows) (s .return-columns)
+    → big ≡ overLimit (s .covariance-rows) (s .covariance-columns)
+    → o1 ≡ orElse other DimensionMismatch Done
+    → o2 ≡ orElse (ltb (s .scratch) 8192) ShortBuffer o1
+    → o3 ≡ orElse (ltb (s .room) (s .assets)) ShortBuffer o2
+    → o4 ≡ orElse ragged SliceLength o3
+    → o5 ≡ orElse misfit SliceLength o4
+    → o6 ≡ orElse many OverLimit o5
+    → o7 ≡ orElse big OverLimit o6
+    → o8 ≡ orElse (ltb 64 (s .assets)) OverLimit o7
+    → o8 ≡ first (downSizeLines s)
+unfolding downSizeLines
+sizes-said s other ragged misfit many big o1 o2 o3 o4 o5 o6 o7 o8 p1 p2 p3 p4 p5 l1 l2 l3 l4 l5 l6 l7 l8 =
+    simp (table, table-end) (rw (l8, l7, l6, l5, l4, l3, l2, l1, p5, p4, p3, p2, p1))
+
+pub rules-said : (r : DownRules) (sharpe tail missing wrong unexpected present other-rows no-rows off no-part no-count tree : Bool) (o1 o2 o3 o4 o5 o6 o7 o8 : Outcome)
+    → sharpe ≡ isSharpe (r .metric)
+    → tail ≡ isTailRisk (r .metric)
+    → missing ≡ (sharpe && not (r .expected-given))
+    → wrong ≡ (r .expected-given && not (eqb (r .expected-length) (r .assets)))
+    → unexpected ≡ (sharpe && wrong)
+    → present ≡ (ltb 0 (r .return-rows) && not (eqb (r .return-columns) (r .assets)))
+    → other-rows ≡ (tail && present)
+    → no-rows ≡ (tail && eqb (r .return-rows) 0)
+    → off ≡ noPart (r .confidence)
+    → no-part ≡ (tail && off)
+    → no-count ≡ (eqb (r .clusters) 0 || ltb (r .assets) (r .clusters))
+    → tree ≡ isTree (r .rows) (r .assets)
+    → o1 ≡ orElse no-count (InvalidNumClusters (r .clusters) (r .assets)) Done
+    → o2 ≡ orElse no-part ConfidenceOutOfRange o1
+    → o3 ≡ orElse no-rows MissingReturnsForTailRisk o2
+    → o4 ≡ orElse missing MissingExpectedReturnsForSharpe o3
+    → o5 ≡ orElse (not tree) NoTree o4
+    → o6 ≡ orElse (eqb (r .assets) 0) NoData o5
+    → o7 ≡ orElse other-rows DimensionMismatch o6
+    → o8 ≡ orElse unexpected DimensionMismatch o7
+    → o8 ≡ first (downRuleLines r)
+unfolding downRuleLines
+rules-said r sharpe tail missing wrong unexpected present other-rows no-rows off no-part no-count tree o1 o2 o3 o4 o5 o6 o7 o8 p1 p2 p3 p4 p5 p6 p7 p8 p9 p10 p11 p12 l1 l2 l3 l4 l5 l6 l7 l8 =
+    simp (table, table-end) (rw (l8, l7, l6, l5, l4, l3, l2, l1, p12, p11, p10, p9, p8, p7, p6, p5, p4, p3, p2, p1))
+
+-- and joined
+pub both-said : (q : DownCall) (room scratch : ℕ) (sizes rules said : Outcome) → sizes ≡ first (downSizeLines (downSizes q room scratch)) → rules ≡ first (downRuleLines (downRules q))
+    → said ≡ andThen sizes rules → said ≡ first (downGiven q room scratch)
+unfolding downGiven
+both-said q room scratch sizes rules said s r e = e ∙ ap (λ (o : Outcome). andThen o rules) s ∙ ap (andThen _) r ∙ sym (first-append _ _)

@@ -1,6 +1,7 @@
 -- The laws of a split and of a weight dealt out, in the shape of the needs. Assumes nothing.
 use Prim.Native.Nat.{ℕ, zero, suc, _+_, _-_, _<_, _≤_}
 use mathlib.Core.Path.{_≡_, refl, sym, ap, _∙_}
+use mathlib.Core.Bool.{Bool, true, false}
 use mathlib.Core.List.{List, _++_}
 use native.Mathlib.Nat.{le-refl, le-antisymm}
 use native.Mathlib.Numerals.{add-one}
@@ -18,96 +19,54 @@ use Rattle.lent.specs.declared.Answer.the-variants as answer
 use Rattle.lent.proofs.Laws.{getD-over, drop-replicate}
 use Rattle.lent.proofs.Sizes.{laid-done, within-limit}
 use Rattle.tree.specs.Tree.{leavesOf}
-use Rattle.tree.specs.Order.{orderAnswer, orderOf}
+use Rattle.tree.specs.Order.{orderAnswer, orderLaid}
 use Rattle.tree.proofs.Order.{leaves-few, leaves-low}
 use Rattle.tree.proofs.Answer.{Ordered, order-answered, order-laid}
-use Rattle.clusters.specs.Clusters.{nth, shares, sharesOutcome, sharesAnswer, sharesLaid, varianceAnswer, expectation, ratio, ratioOf, sharpeAnswer}
+use Rattle.clusters.specs.Clusters.{nth, shares, sharesOutcome, sharesAnswer, sharesLaid}
 use Rattle.clusters.specs.Shares.{none, some}
-use Rattle.clusters.specs.declared.Risk.{Risk}
-use Rattle.clusters.specs.declared.Risk.the-variants as risk
 use Rattle.clusters.proofs.Laws.{length-shares}
-use Rattle.clusters.proofs.Sharing.{variance-outcome, variance-value, shares-as-variance, sharpe-as-variance}
-use Rattle.tails.specs.Tail.{shortfallOf, drawdownOf}
-use Rattle.tails.specs.Measures.{call, shortfallAnswer, drawdownAnswer}
-use Rattle.tails.proofs.Known.{shortfall-known, drawdown-known}
-use Rattle.sharing.specs.declared.Metric.{Metric}
-use Rattle.sharing.specs.declared.Split.{Split}
-use Rattle.sharing.specs.declared.Splitting.the-variants as splitting
-use Rattle.sharing.specs.Split.{Inputs, scored, splitOf}
+use Rattle.clusters.proofs.Sharing.{shares-as-variance}
+use Rattle.metrics.specs.declared.Metric.{Metric}
+use Rattle.metrics.specs.declared.Splitting.{Splitting}
+use Rattle.metrics.specs.Names.{isTailRisk}
+use Rattle.metrics.specs.Split.{Inputs, splitOf, splitAnswer}
+use Rattle.metrics.specs.Inner.{Fed}
+use Rattle.metrics.proofs.Laws.{split-known}
 use Rattle.sharing.specs.Allot.{spreadOf, dealTo, variedOf}
-use Rattle.sharing.specs.Walk.{Below, Front, Dealt, Tailed, Blank}
+use Rattle.sharing.specs.Inner.{Below, Front, Dealt, Blank}
 
--- ---- the ratio of a side that has a variance is not refused
+-- ---- the split of two sides, in the front of a scratch that is zero
 
-module _ (expected cov : List Float) (n : ℕ) (side : List ℕ) (v : Float) (h : length expected ≡ n) (e : varianceAnswer cov n n side ≡ risk.Of v) where
-  pub sharpe-known : sharpeAnswer expected cov n n side ≡ risk.Of (ratio (expectation expected cov n side) v)
-  unfolding sharpeAnswer ratioOf
-  sharpe-known = rw (sharpe-as-variance cov n n side expected h, variance-outcome cov n n side v e, variance-value cov n n side v e)
+pub never-both : {b : Bool} {A : Type 0} → b ≡ false → b ≡ true → A
+never-both e h = absurd (let z : _≡_ {A = ℕ} 0 1 = cc in omega arith)
 
-  pub ratio-known : (x : Float) → sharpeAnswer expected cov n n side ≡ risk.Of x → x ≡ ratio (expectation expected cov n side) v
-  ratio-known x q = let k = sharpe-known in cc
+pub few-rows : {metric : Metric} {x : Inputs} {n : ℕ} → Fed metric x n → isTailRisk metric ≡ true → x .return-rows ≤ 4096
+few-rows {x = x} {n = n} f t = within-limit (x .return-rows) n (f .tailed t .limits) .0
 
-  pub ratio-not : {A : Type 0} (r : Refusal) → sharpeAnswer expected cov n n side ≡ risk.Refused r → A
-  ratio-not r q = let k = sharpe-known in absurd (let z : _≡_ {A = ℕ} 0 1 = cc in omega arith)
+module _ {scratch : List Float} (b : Blank scratch) {m : ℕ} (h : m ≤ 4097) where
+  pub series-fits : m ≤ length scratch
+  series-fits = omega (arith, h, b .enough)
 
--- ---- so are the two measures, where the rows of returns fit
-
-pub same-risk : {a : Risk} {x y : Float} → a ≡ risk.Of y → a ≡ risk.Of x → x ≡ y
-same-risk e q = cc
-
-pub risk-never : {A : Type 0} {a : Risk} {y : Float} {r : Refusal} → a ≡ risk.Of y → a ≡ risk.Refused r → A
-risk-never e q = absurd (let z : _≡_ {A = ℕ} 0 1 = cc in omega arith)
-
-module _ {returns : List Float} {h : ℕ} {q : Float} {n : ℕ} (p : Tailed returns h q n) {scratch : List Float} (b : Blank scratch) where
-  -- the series takes the front of the scratch
-  pub series-few : h ≤ 4096
-  series-few = within-limit h n (p .limits) .0
-
-  pub series-fits : h + 1 ≤ length scratch
-  series-fits = omega (arith, series-few, b .enough)
-
-  pub series-length : length (take (h + 1) scratch) ≡ h + 1
-  series-length = length-take-le _ _ series-fits
+  pub series-length : length (take m scratch) ≡ m
+  series-length = length-take-le m scratch series-fits
 
   -- scratch whose front was zero and is zero again is as it was
-  pub blank-again : {part : List Float} → part ≡ zeros (length (take (h + 1) scratch)) → part ++ drop (h + 1) scratch ≡ scratch
+  pub blank-again : {part : List Float} → part ≡ zeros (length (take m scratch)) → part ++ drop m scratch ≡ scratch
   blank-again e =
-      let g : h + 1 + (length scratch - (h + 1)) ≡ length scratch = omega (arith, series-fits) in
-      ap (λ (l : List Float). l ++ drop (h + 1) scratch) (e ∙ ap zeros series-length)
-      ∙ ap (λ (l : List Float). zeros (h + 1) ++ drop (h + 1) l) (b .zero)
-      ∙ ap (λ (l : List Float). zeros (h + 1) ++ l) (drop-replicate (h + 1) (length scratch) pz)
-      ∙ replicate-append-replicate (h + 1) (length scratch - (h + 1)) pz
+      let g : m + (length scratch - m) ≡ length scratch = omega (arith, series-fits) in
+      ap (λ (l : List Float). l ++ drop m scratch) (e ∙ ap zeros series-length)
+      ∙ ap (λ (l : List Float). zeros m ++ drop m l) (b .zero)
+      ∙ ap (λ (l : List Float). zeros m ++ l) (drop-replicate m (length scratch) pz)
+      ∙ replicate-append-replicate m (length scratch - m) pz
       ∙ ap zeros g
       ∙ sym (b .zero)
 
-module _ {returns : List Float} {h : ℕ} {q : Float} {n : ℕ} (p : Tailed returns h q n) (cov : List Float) (side : List ℕ) {v : Float} (e : varianceAnswer cov n n side ≡ risk.Of v) {scratch : List Float} (b : Blank scratch) where
-  roomy : h + 1 ≤ length (take (h + 1) scratch)
-  roomy = omega (arith, series-length p b)
-
-  pub shortfall-answered : shortfallAnswer (call returns h n cov n n side q (length (take (h + 1) scratch))) ≡ risk.Of (shortfallOf returns h cov n side q)
-  shortfall-answered = shortfall-known returns h cov n side q (length (take (h + 1) scratch)) v (p .cells) (p .limits) (p .rows) (p .part) roomy e
-
-  pub drawdown-answered : drawdownAnswer (call returns h n cov n n side q (length (take (h + 1) scratch))) ≡ risk.Of (drawdownOf returns h cov n side q)
-  drawdown-answered = drawdown-known returns h cov n side q (length (take (h + 1) scratch)) v (p .cells) (p .limits) (p .rows) (p .part) roomy e
+  pub split-right : {metric : Metric} {x : Inputs} {n : ℕ} → Fed metric x n → (isTailRisk metric ≡ true → m ≡ x .return-rows + 1) → (cov : List Float) (left right : List ℕ) (s : Splitting)
+      → s ≡ splitAnswer metric x cov n left right (length (take m scratch)) → s ≡ splitOf metric x cov n left right
+  split-right f g cov left right s e = e ∙ split-known f cov left right (length (take m scratch)) (λ t. omega (arith, g t, series-length))
 
 pub blank-still : {scratch after : List Float} → Blank scratch → after ≡ scratch → Blank after
 blank-still b e = rw e b
-
--- ---- the split of two sides
-
-module _ (metric : Metric) (x : Inputs) (cov : List Float) (n : ℕ) (a b : List ℕ) where
-  pub left-none : (r : Refusal) → varianceAnswer cov n n a ≡ risk.Refused r → splitting.Refused r ≡ splitOf metric x cov n a b
-  unfolding splitOf
-  left-none r e = rw e
-
-  pub right-none : (l : Float) (r : Refusal) → varianceAnswer cov n n a ≡ risk.Of l → varianceAnswer cov n n b ≡ risk.Refused r → splitting.Refused r ≡ splitOf metric x cov n a b
-  unfolding splitOf
-  right-none l r e h = rw (e, h)
-
-  pub both-fine : (l r : Float) (s : Split) → varianceAnswer cov n n a ≡ risk.Of l → varianceAnswer cov n n b ≡ risk.Of r → s ≡ scored metric x cov n a b l r
-      → splitting.By s ≡ splitOf metric x cov n a b
-  unfolding splitOf
-  both-fine l r s e h q = rw (e, h, q)
 
 -- ---- the leaves of a node, in a buffer of 64
 
@@ -118,11 +77,11 @@ module _ {rows : List ℕ} {n v : ℕ} (p : Below rows n v) where
   ordered : Ordered rows n v 64
   ordered = record { most = p .most; roomy = p .most; on = p .on }
 
-  pub front : (room m k : ℕ) (after : List ℕ) → room ≡ 64 → orderAnswer rows n v room ≡ answer.Matrix k m → after ≡ orderOf rows n v room → Front rows n v after m
+  pub front : (room m k : ℕ) (after : List ℕ) → room ≡ 64 → orderAnswer rows n v room ≡ answer.Matrix k m → after ≡ orderLaid rows n v room → Front rows n v after m
   front room m k after e a o =
       let q : answer.Matrix 1 (length (leavesOf rows n v)) ≡ answer.Matrix k m = sym (order-answered ordered) ∙ ap (orderAnswer rows n v) (sym e) ∙ a in
       let s : length (leavesOf rows n v) ≡ m = cc in
-      let l : after ≡ leavesOf rows n v ++ noughts (64 - length (leavesOf rows n v)) = o ∙ ap (orderOf rows n v) e ∙ order-laid ordered in
+      let l : after ≡ leavesOf rows n v ++ noughts (64 - length (leavesOf rows n v)) = o ∙ ap (orderLaid rows n v) e ∙ order-laid ordered in
       record { few = omega (arith, fits-64); list = rw l (take-at (leavesOf rows n v) _ m s) }
 
   pub front-not : {A : Type 0} (room : ℕ) (r : Refusal) → room ≡ 64 → orderAnswer rows n v room ≡ answer.Refused r → A

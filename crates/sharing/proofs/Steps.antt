@@ -13,14 +13,15 @@ use Rattle.refusal.specs.declared.Refusal.{Refusal}
 use Rattle.tree.specs.Tree.{left, right, leavesOf}
 use Rattle.tree.proofs.Tree.{tree-leaf, tree-on, on-left, on-right}
 use Rattle.tree.proofs.Walk.{leaves-leaf, leaves-fork}
-use Rattle.clusters.specs.Shares.{Shares, none, some, andThen, told}
-use Rattle.sharing.specs.declared.Metric.{Metric}
-use Rattle.sharing.specs.declared.Split.{Split}
-use Rattle.sharing.specs.declared.Splitting.{Splitting}
-use Rattle.sharing.specs.declared.Splitting.the-variants as splitting
-use Rattle.sharing.specs.Split.{Inputs, splitOf}
+use Rattle.clusters.specs.Shares.{Shares, none, some, withShares}
+use Rattle.clusters.specs.Inner.{told}
+use Rattle.metrics.specs.declared.Metric.{Metric}
+use Rattle.metrics.specs.declared.Split.{Split}
+use Rattle.metrics.specs.declared.Splitting.{Splitting}
+use Rattle.metrics.specs.declared.Splitting.the-variants as splitting
+use Rattle.metrics.specs.Split.{Inputs, splitOf}
 use Rattle.sharing.specs.Allot.{insideOf, onward, allotted, allottedAt}
-use Rattle.sharing.specs.Walk.{Below, Dealt, Down}
+use Rattle.sharing.specs.Inner.{Below, Dealt, Down}
 use Rattle.sharing.proofs.Laws.{fits-64, leaves-dealt}
 
 -- ---- how many leaves a node has
@@ -84,7 +85,7 @@ module _ {metric : Metric} {x : Inputs} {rows : List ℕ} {n k v : ℕ} {ms : Li
     module _ (h : n ≤ v - n + k) {l : ℕ} (e : l ≡ length (leavesOf rows n (left rows (v - n)))) {o : Splitting} (g : o ≡ splitOf metric x cov n (take l ms) (take (length ms - l) (drop l ms))) where
       allot-split : allottedAt metric x cov rows n k v w ws
           ≡ onward o
-          (λ s. andThen (allottedAt metric x cov rows n k (left rows (v - n)) (mul binary64 w (s .factor)) ws)
+          (λ s. withShares (allottedAt metric x cov rows n k (left rows (v - n)) (mul binary64 w (s .factor)) ws)
           (λ mid. allottedAt metric x cov rows n k (right rows (v - n)) (mul binary64 w (sub binary64 unit (s .factor))) mid))
       unfolding allotted
       allot-split = rw (g, left-part p ge e, right-part p ge e, tree-on (p .node .on) ge, le-leb n (v - n + k) h)

@@ -11,14 +11,14 @@ use Rattle.refusal.specs.declared.Outcome.{Outcome}
 use Rattle.refusal.specs.declared.Outcome.the-variants.{Done, Refused}
 use Rattle.lent.specs.Grid.{zeros}
 use Rattle.clusters.specs.Clusters.{nth, shares, sharesOutcome}
-use Rattle.clusters.specs.Shares.{Shares, none, some, andThen}
+use Rattle.clusters.specs.Shares.{Shares, none, some, withShares}
 use Rattle.tree.specs.Tree.{Tree, leaf, fork, treeAt, leaves}
-use Rattle.sharing.specs.declared.Metric.{Metric}
-use Rattle.sharing.specs.declared.Metric.the-variants.{MinimumVariance, MinimumStandardDeviation, SharpeRatio, EqualWeighting, ExpectedShortfall, ConditionalDrawdownRisk}
-use Rattle.sharing.specs.declared.Split.{Split}
-use Rattle.sharing.specs.declared.Splitting.{Splitting}
-use Rattle.sharing.specs.declared.Splitting.the-variants as splitting
-use Rattle.sharing.specs.Split.{Inputs, splitOf}
+use Rattle.metrics.specs.declared.Metric.{Metric}
+use Rattle.metrics.specs.declared.Metric.the-variants.{MinimumVariance, MinimumStandardDeviation, SharpeRatio, EqualWeighting, ExpectedShortfall, ConditionalDrawdownRisk}
+use Rattle.metrics.specs.declared.Split.{Split}
+use Rattle.metrics.specs.declared.Splitting.{Splitting}
+use Rattle.metrics.specs.declared.Splitting.the-variants as splitting
+use Rattle.metrics.specs.Split.{Inputs, splitOf}
 
 -- "Node n + row splits when row + k ≥ n"; an asset is never cut
 abbrev pub splits : ℕ → ℕ → Tree → Bool
@@ -69,7 +69,7 @@ unfolding insideOf
 allotted metric x cov n k (leaf a) b w ws = some (set ws a w)
 allotted metric x cov n k (fork r l t) true w ws =
     onward (splitOf metric x cov n (leaves l) (leaves t))
-    (λ s. andThen (allotted metric x cov n k l (splits n k l) (mul binary64 w (s .factor)) ws)
+    (λ s. withShares (allotted metric x cov n k l (splits n k l) (mul binary64 w (s .factor)) ws)
     (λ mid. allotted metric x cov n k t (splits n k t) (mul binary64 w (sub binary64 unit (s .factor))) mid))
 allotted metric x cov n k (fork r l t) false w ws = insideOf metric cov n (leaves (fork r l t)) w ws
 
@@ -77,6 +77,6 @@ abbrev pub allottedAt : Metric → Inputs → List Float → List ℕ → ℕ �
 allottedAt metric x cov rows n k v w ws = allotted metric x cov n k (treeAt rows n v) (splits n k (treeAt rows n v)) w ws
 
 -- "HCAA recursion starts at node 2n − 2 with weight 1 and walks down."
-unfoldable pub sharesOf : Metric → Inputs → List Float → List ℕ → ℕ → ℕ → Shares
+unfoldable pub downShares : Metric → Inputs → List Float → List ℕ → ℕ → ℕ → Shares
 unfolding allotted
-sharesOf metric x cov rows n k = allottedAt metric x cov rows n k (2 * n - 2) unit (zeros n)
+downShares metric x cov rows n k = allottedAt metric x cov rows n k (2 * n - 2) unit (zeros n)

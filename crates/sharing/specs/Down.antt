@@ -1,53 +1,48 @@
 -- What `allocate_down_tree` answers, and what it leaves in its buffer. Definitions only.
 use Prim.Native.Nat.{ℕ, _-_}
-use mathlib.Core.Bool.{Bool, true, false, not, _&&_, _||_}
+use mathlib.Core.Bool.{Bool, not, _&&_, _||_}
 use mathlib.Core.List.{List, [], _∷_, _++_}
 use lib.Dec.{ltb, eqb}
 use lib.ListN.{length}
 use lib.Ieee.{Float}
 use Rattle.arithmetic.specs.Constants.{pz}
 use Rattle.refusal.specs.Table.{Line, first}
-use Rattle.refusal.specs.declared.Refusal.the-variants.{NoData, DimensionMismatch, MissingExpectedReturnsForSharpe, InvalidNumClusters, OverLimit, SliceLength, ShortBuffer, NoTree, MissingReturnsForTailRisk, ConfidenceOutOfRange}
+use Rattle.refusal.specs.declared.Refusal.the-variants.{NoData, DimensionMismatch, MissingExpectedReturnsForSharpe, InvalidNumClusters, OverLimit, SliceLength, ShortBuffer, NoTree}
 use Rattle.refusal.specs.declared.Outcome.{Outcome}
 use Rattle.lent.specs.Lent.{most-assets, least-scratch, overLimit, otherLength, laid, answerOf}
 use Rattle.lent.specs.declared.Answer.{Answer}
-use Rattle.ordering.specs.Nearest.{noPart}
+use Rattle.tails.specs.Measures.{otherWidth, tailLines}
 use Rattle.clusters.specs.Shares.{isNone, weightsIn}
 use Rattle.tree.specs.Rows.{isTree}
-use Rattle.sharing.specs.declared.Metric.{Metric}
-use Rattle.sharing.specs.declared.Metric.the-variants.{MinimumVariance, MinimumStandardDeviation, SharpeRatio, EqualWeighting, ExpectedShortfall, ConditionalDrawdownRisk}
-use Rattle.sharing.specs.Split.{Inputs}
-use Rattle.sharing.specs.Allot.{sharesOf}
-
-unfoldable pub isSharpe : Metric → Bool
-isSharpe MinimumVariance = false
-isSharpe MinimumStandardDeviation = false
-isSharpe SharpeRatio = true
-isSharpe EqualWeighting = false
-isSharpe ExpectedShortfall = false
-isSharpe ConditionalDrawdownRisk = false
-
--- the two metrics of document 02, request 1
-unfoldable pub isTailRisk : Metric → Bool
-isTailRisk MinimumVariance = false
-isTailRisk MinimumStandardDeviation = false
-isTailRisk SharpeRatio = false
-isTailRisk EqualWeighting = false
-isTailRisk ExpectedShortfall = true
-isTailRisk ConditionalDrawdownRisk = true
+use Rattle.metrics.specs.declared.Metric.{Metric}
+unfoldable pub use Rattle.metrics.specs.Names.{isSharpe, isTailRisk}
+use Rattle.metrics.specs.Split.{Inputs}
+use Rattle.sharing.specs.Allot.{downShares}
 
 -- "16, no return rows"; "17, under these two metrics, confidence NaN or outside 0 to 1, right after 16"
-unfoldable pub tailLines : Metric → Inputs → List Line
+unfoldable pub metricTailLines : Metric → Inputs → List Line
 unfolding isTailRisk
-tailLines m x = (isTailRisk m && eqb (x .return-rows) 0, MissingReturnsForTailRisk) ∷ (isTailRisk m && noPart (x .confidence), ConfidenceOutOfRange) ∷ []
+metricTailLines m x = tailLines (isTailRisk m) (x .return-rows) (x .confidence)
+
+-- "cluster count 0 or above the assets" (6, with "the count asked and the assets")
+abbrev pub countLine : ℕ → ℕ → Line
+countLine clusters n = (eqb clusters 0 || ltb n clusters, InvalidNumClusters clusters n)
+
+-- "Sharpe: expected length other than n 3": so many expected returns are given, or none
+abbrev pub lengthLine : Metric → Bool → ℕ → ℕ → Line
+lengthLine m given len n = (isSharpe m && (given && not (eqb len n)), DimensionMismatch)
+
+-- "Sharpe without expected returns or return rows" (4)
+abbrev pub lackLine : Metric → Bool → Line
+lackLine m lacking = (isSharpe m && lacking, MissingExpectedReturnsForSharpe)
 
 -- "return rows present with columns other than n 3", where they are read
 unfoldable pub otherRows : Metric → Inputs → ℕ → ℕ → Bool
 unfolding isTailRisk
-otherRows m x columns n = isTailRisk m && (ltb 0 (x .return-rows) && not (eqb columns n))
+otherRows m x columns n = isTailRisk m && otherWidth (x .return-rows) columns n
 
 -- the call: the expected returns may be absent, and there may be no return rows
-pub record Call : Type 0 where
+pub record DownCall : Type 0 where
   pub metric : Metric
   pub inputs : Inputs
   pub expected-given : Bool
@@ -59,47 +54,108 @@ pub record Call : Type 0 where
   pub assets : ℕ
   pub clusters : ℕ
 
--- 9, 10, 11; "after its 3": the covariance's size, then the expected returns' length under Sharpe, then the columns of return rows under a tail-risk metric;
--- "n = 0 is 1, then 14"; 4; 16, 17; 6
-unfoldable pub callTable : Call → ℕ → ℕ → List Line
-unfolding isSharpe otherRows tailLines
-callTable q room scratch =
-    (ltb most-assets (q .assets), OverLimit)
-    ∷ (overLimit (q .covariance-rows) (q .covariance-columns), OverLimit)
-    ∷ (overLimit (q .inputs .return-rows) (q .return-columns), OverLimit)
-    ∷ (otherLength (length (q .covariance)) (q .covariance-rows) (q .covariance-columns), SliceLength)
-    ∷ (otherLength (length (q .inputs .returns)) (q .inputs .return-rows) (q .return-columns), SliceLength)
-    ∷ (ltb room (q .assets), ShortBuffer)
-    ∷ (ltb scratch least-scratch, ShortBuffer)
-    ∷ (not (eqb (q .covariance-rows) (q .assets)) || not (eqb (q .covariance-columns) (q .assets)), DimensionMismatch)
-    ∷ (isSharpe (q .metric) && (q .expected-given && not (eqb (length (q .inputs .expected)) (q .assets))), DimensionMismatch)
-    ∷ (otherRows (q .metric) (q .inputs) (q .return-columns) (q .assets), DimensionMismatch)
-    ∷ (eqb (q .assets) 0, NoData)
-    ∷ (not (isTree (q .rows) (q .assets)), NoTree)
-    ∷ (isSharpe (q .metric) && not (q .expected-given), MissingExpectedReturnsForSharpe)
-    ∷ (tailLines (q .metric) (q .inputs)
-    ++ ((eqb (q .clusters) 0 || ltb (q .assets) (q .clusters), InvalidNumClusters (q .clusters) (q .assets)) ∷ []))
+-- the sizes of what the call gives, and of what it is lent
+pub record DownSizes : Type 0 where
+  pub assets : ℕ
+  pub covariance-cells : ℕ
+  pub covariance-rows : ℕ
+  pub covariance-columns : ℕ
+  pub return-cells : ℕ
+  pub return-rows : ℕ
+  pub return-columns : ℕ
+  pub room : ℕ
+  pub scratch : ℕ
+
+-- 9, 10, 11; "after its 3": the covariance's size
+unfoldable pub downSizeLines : DownSizes → List Line
+downSizeLines s =
+    (ltb most-assets (s .assets), OverLimit)
+    ∷ (overLimit (s .covariance-rows) (s .covariance-columns), OverLimit)
+    ∷ (overLimit (s .return-rows) (s .return-columns), OverLimit)
+    ∷ (otherLength (s .covariance-cells) (s .covariance-rows) (s .covariance-columns), SliceLength)
+    ∷ (otherLength (s .return-cells) (s .return-rows) (s .return-columns), SliceLength)
+    ∷ (ltb (s .room) (s .assets), ShortBuffer)
+    ∷ (ltb (s .scratch) least-scratch, ShortBuffer)
+    ∷ (not (eqb (s .covariance-rows) (s .assets)) || not (eqb (s .covariance-columns) (s .assets)), DimensionMismatch)
+    ∷ []
+
+-- what the metric, the merge rows and the cluster count are held to
+pub record DownRules : Type 0 where
+  pub metric : Metric
+  pub expected-given : Bool
+  pub expected-length : ℕ
+  pub return-rows : ℕ
+  pub return-columns : ℕ
+  pub confidence : Float
+  pub rows : List ℕ
+  pub assets : ℕ
+  pub clusters : ℕ
+
+-- then the expected returns' length under Sharpe (3), then the columns of return rows under a tail-risk metric (3); "n = 0 is 1, then 14"; 4; 16, 17; 6
+unfoldable pub downRuleLines : DownRules → List Line
+unfolding isSharpe isTailRisk
+downRuleLines r =
+    lengthLine (r .metric) (r .expected-given) (r .expected-length) (r .assets)
+    ∷ (isTailRisk (r .metric) && otherWidth (r .return-rows) (r .return-columns) (r .assets), DimensionMismatch)
+    ∷ (eqb (r .assets) 0, NoData)
+    ∷ (not (isTree (r .rows) (r .assets)), NoTree)
+    ∷ lackLine (r .metric) (not (r .expected-given))
+    ∷ (tailLines (isTailRisk (r .metric)) (r .return-rows) (r .confidence)
+    ++ (countLine (r .clusters) (r .assets) ∷ []))
+
+-- the sizes of a call, its buffer for the weights and its scratch
+abbrev pub downSizes : DownCall → ℕ → ℕ → DownSizes
+downSizes q room scratch = record {
+  assets = q .assets;
+  covariance-cells = length (q .covariance);
+  covariance-rows = q .covariance-rows;
+  covariance-columns = q .covariance-columns;
+  return-cells = length (q .inputs .returns);
+  return-rows = q .inputs .return-rows;
+  return-columns = q .return-columns;
+  room = room;
+  scratch = scratch;
+}
+
+-- what of a call is held to rules
+abbrev pub downRules : DownCall → DownRules
+downRules q = record {
+  metric = q .metric;
+  expected-given = q .expected-given;
+  expected-length = length (q .inputs .expected);
+  return-rows = q .inputs .return-rows;
+  return-columns = q .return-columns;
+  confidence = q .inputs .confidence;
+  rows = q .rows;
+  assets = q .assets;
+  clusters = q .clusters;
+}
+
+-- what refuses a call before anything is shared out, in order
+unfoldable pub downGiven : DownCall → ℕ → ℕ → List Line
+unfolding downSizeLines downRuleLines
+downGiven q room scratch = downSizeLines (downSizes q room scratch) ++ downRuleLines (downRules q)
 
 -- then what the recursion itself refuses: a side or, not under equal weighting, a cut cluster that has a variance ≤ 0, or reciprocals that sum to ≤ 0
-unfoldable pub downTable : Call → ℕ → ℕ → List Line
-unfolding callTable
+unfoldable pub downTable : DownCall → ℕ → ℕ → List Line
+unfolding downGiven
 downTable q room scratch =
-    callTable q room scratch ++ ((isNone (sharesOf (q .metric) (q .inputs) (q .covariance) (q .rows) (q .assets) (q .clusters)), NoData) ∷ [])
+    downGiven q room scratch ++ ((isNone (downShares (q .metric) (q .inputs) (q .covariance) (q .rows) (q .assets) (q .clusters)), NoData) ∷ [])
 
-unfoldable pub downOutcome : Call → ℕ → ℕ → Outcome
+unfoldable pub downOutcome : DownCall → ℕ → ℕ → Outcome
 unfolding downTable
 downOutcome q room scratch = first (downTable q room scratch)
 
 -- one row of a weight for each asset
-unfoldable pub downAnswer : Call → ℕ → ℕ → Answer
+unfoldable pub downAnswer : DownCall → ℕ → ℕ → Answer
 unfolding downOutcome
 downAnswer q room scratch = answerOf (downOutcome q room scratch) 1 (q .assets)
 
-unfoldable pub downWeights : Call → ℕ → ℕ → List Float
+unfoldable pub downWeights : DownCall → ℕ → ℕ → List Float
 unfolding downOutcome
 downWeights q room scratch =
-    laid pz (downOutcome q room scratch) room (weightsIn (sharesOf (q .metric) (q .inputs) (q .covariance) (q .rows) (q .assets) (q .clusters)))
+    laid pz (downOutcome q room scratch) room (weightsIn (downShares (q .metric) (q .inputs) (q .covariance) (q .rows) (q .assets) (q .clusters)))
 
-abbrev pub call : Metric → Inputs → Bool → ℕ → List Float → ℕ → ℕ → List ℕ → ℕ → ℕ → Call
-call metric x given w cov r c rows n k =
+abbrev pub downCall : Metric → Inputs → Bool → ℕ → List Float → ℕ → ℕ → List ℕ → ℕ → ℕ → DownCall
+downCall metric x given w cov r c rows n k =
     record { metric = metric; inputs = x; expected-given = given; return-columns = w; covariance = cov; covariance-rows = r; covariance-columns = c; rows = rows; assets = n; clusters = k }

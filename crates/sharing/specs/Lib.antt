@@ -2,4 +2,4 @@ pub mod Names
 pub mod Split
 pub mod Allot
 pub mod Down
-pub mod Walk
+pub mod Inner

@@ -1,247 +1,54 @@
 // Sharing a weight out down a tree of merge rows, as HCAA does.
 
-use clusters::Risk;
 use lent::Answer;
+pub use metrics::Metric;
+pub use metrics::NamedMetric;
+use metrics::Splitting;
+pub use metrics::is_sharpe;
+pub use metrics::is_tail_risk;
+pub use metrics::metric_named;
 use refusal::Outcome;
 use refusal::Refusal;
 use tree::Asset;
 use tree::Node;
 ghost use mathlib.Core.Path.{_≡_};
-ghost use Prim.Native.Nat.{_<_};
+ghost use mathlib.Core.Bool.{true};
+ghost use Prim.Native.Nat.{_+_, _<_, _≤_};
 ghost use lib.ListN.{length, set};
 ghost use Rattle.refusal.specs.Table.{first};
+ghost use Rattle.refusal.specs.declared.Refusal.the-variants.{NoData};
+ghost use Rattle.lent.specs.declared.Answer.the-variants as answer;
 ghost use Rattle.tree.specs.Tree.{leavesOf};
-ghost use Rattle.clusters.specs.Clusters.{varianceAnswer, expectation, ratio};
 ghost use Rattle.lent.specs.Grid.{zeros};
-ghost use Rattle.clusters.specs.Shares.{told};
-ghost use Rattle.clusters.specs.declared.Risk.the-variants as risk;
-ghost use Rattle.tails.specs.Tail.{shortfallOf, drawdownOf};
-ghost use Rattle.sharing.specs.Names.{metricNamed};
-ghost use Rattle.sharing.specs.Split.{inputs, bounded, splitBy, byRisk, byRatio, scored, splitOf};
+ghost use Rattle.clusters.specs.Inner.{told};
+ghost use Rattle.metrics.specs.Split.{inputs, splitOf};
+ghost use Rattle.metrics.specs.Inner.{Fed};
 ghost use Rattle.sharing.specs.Allot.{spreadOf, equalOf, dealTo, variedOf, insideOf, allottedAt};
-ghost use Rattle.sharing.specs.Down.{isSharpe, isTailRisk, callTable, downAnswer, downWeights, call};
-ghost use Rattle.sharing.specs.Walk.{Below, Front, Dealt, Tailed, Fed, Blank, Down};
+ghost use Rattle.sharing.specs.Down.{isTailRisk, downSizeLines, downRuleLines, downAnswer, downWeights, downCall};
+ghost use Rattle.sharing.specs.Inner.{Below, Front, Dealt, Blank, Down};
 
-// How a node's weight is shared between its two children.
-pub enum Metric {
-    MinimumVariance,
-    MinimumStandardDeviation,
-    SharpeRatio,
-    EqualWeighting,
-    ExpectedShortfall,
-    ConditionalDrawdownRisk,
-}
-
-// A split keeps the two sides' risks and the left side's factor together.
-pub struct Split {
-    pub left: f64,
-    pub right: f64,
-    pub factor: f64,
-}
-
-// A split, or the refusal of a side.
-pub enum Splitting {
-    By(Split),
-    Refused(Refusal),
-}
-
-pub enum NamedMetric {
-    Of(Metric),
-    Refused(Refusal),
-}
-
-const EPSILON: f64 = 2.220446049250313e-16;
-
-pub fn metric_named(name: &[u8]) -> NamedMetric
-    ensures { λ r. ⌜ r ≡ metricNamed (now (name .entry)) ⌝ }
-{
-    if text::same(name, b"minimum_variance") {
-        return NamedMetric::Of(Metric::MinimumVariance);
-    }
-    if text::same(name, b"minimum_standard_deviation") {
-        return NamedMetric::Of(Metric::MinimumStandardDeviation);
-    }
-    if text::same(name, b"sharpe_ratio") {
-        return NamedMetric::Of(Metric::SharpeRatio);
-    }
-    if text::same(name, b"equal_weighting") {
-        return NamedMetric::Of(Metric::EqualWeighting);
-    }
-    if text::same(name, b"expected_shortfall") {
-        return NamedMetric::Of(Metric::ExpectedShortfall);
-    }
-    if text::same(name, b"conditional_drawdown_risk") {
-        return NamedMetric::Of(Metric::ConditionalDrawdownRisk);
-    }
-    NamedMetric::Refused(Refusal::UnknownAllocationMetric)
-}
-
-// A factor that is not finite is a half.
-fn bounded(f: f64) -> f64
-    ensures { λ r. ⌜ r ≡ bounded f ⌝ }
-{
-    if arithmetic::is_finite(f) {
-        arithmetic::clamp(f, 0.0, 1.0)
-    } else {
-        0.5
-    }
-}
-
-fn split_by(left: f64, right: f64, f: f64) -> Split
-    ensures { λ r. ⌜ r ≡ splitBy left right f ⌝ }
-{
-    let factor = bounded(f);
-    Split {
-        left,
-        right,
-        factor,
-    }
-}
-
-fn by_risk(l: f64, r: f64) -> Split
-    ensures { λ s. ⌜ s ≡ byRisk l r ⌝ }
-{
-    split_by(l, r, 1.0 - l / (l + r + EPSILON))
-}
-
-// s and t are the ratios, l and r the variances.
-fn by_ratio(s: f64, t: f64, l: f64, r: f64) -> Split
-    ensures { λ o. ⌜ o ≡ byRatio s t l r ⌝ }
-{
-    let fair = refusal::both(refusal::both(0.0 <= s, 0.0 <= t), 0.0 < s + t);
-    if fair {
-        return split_by(s, t, s / (s + t));
-    }
-    by_risk(l, r)
-}
-
-// The ratio of a side whose variance is v, and so is not refused.
-fn ratio_of(expected: &[f64], cov: &[f64], n: usize, side: &[usize], v: f64) -> f64
-    requires { ⌜ length (now expected) ≡ n ⌝ }
-    requires { ⌜ varianceAnswer (now cov) n n (now side) ≡ risk.Of v ⌝ }
-    ensures { λ r. ⌜ r ≡ ratio (expectation (now (expected .entry)) (now (cov .entry)) n (now (side .entry))) v ⌝ }
-{
-    match clusters::cluster_sharpe(expected, cov, n, n, side) {
-        Risk::Of(x) => x,
-        Risk::Refused(_) => 0.0,
-    }
-}
-
-// The expected shortfall of a side whose variance is v, and so is not refused.
-fn shortfall_of(
-    returns: &[f64],
-    return_rows: usize,
-    cov: &[f64],
-    n: usize,
-    side: &[usize],
+// The numbers that stay the same on the whole way down.
+struct Plan {
+    periods: usize,
     confidence: f64,
-    v: f64,
-    scratch: &mut [f64],
-) -> f64
-    requires { ⌜ Tailed (now returns) «return_rows» confidence n ⌝ }
-    requires { ⌜ varianceAnswer (now cov) n n (now side) ≡ risk.Of v ⌝ }
-    requires { ⌜ Blank (now scratch) ⌝ }
-    ensures { λ r. ⌜ r ≡ shortfallOf (now (returns .entry)) «return_rows» (now (cov .entry)) n (now (side .entry)) confidence ⌝ }
-    ensures { λ _. ⌜ now (scratch .exit) ≡ now (scratch .entry) ⌝ }
-{
-    // the call clears all that it is lent: no more than the series needs
-    let m = return_rows + 1;
-    match tails::cluster_expected_shortfall(
-        returns,
-        return_rows,
-        n,
-        cov,
-        n,
-        n,
-        side,
-        confidence,
-        &mut scratch[..m],
-    ) {
-        Risk::Of(x) => x,
-        Risk::Refused(_) => 0.0,
-    }
-}
-
-// The conditional drawdown, likewise.
-fn drawdown_of(
-    returns: &[f64],
-    return_rows: usize,
-    cov: &[f64],
     n: usize,
-    side: &[usize],
-    confidence: f64,
-    v: f64,
-    scratch: &mut [f64],
-) -> f64
-    requires { ⌜ Tailed (now returns) «return_rows» confidence n ⌝ }
-    requires { ⌜ varianceAnswer (now cov) n n (now side) ≡ risk.Of v ⌝ }
-    requires { ⌜ Blank (now scratch) ⌝ }
-    ensures { λ r. ⌜ r ≡ drawdownOf (now (returns .entry)) «return_rows» (now (cov .entry)) n (now (side .entry)) confidence ⌝ }
-    ensures { λ _. ⌜ now (scratch .exit) ≡ now (scratch .entry) ⌝ }
-{
-    let m = return_rows + 1;
-    match tails::cluster_conditional_drawdown(
-        returns,
-        return_rows,
-        n,
-        cov,
-        n,
-        n,
-        side,
-        confidence,
-        &mut scratch[..m],
-    ) {
-        Risk::Of(x) => x,
-        Risk::Refused(_) => 0.0,
-    }
+    clusters: usize,
 }
 
-// The split of two sides whose variances are l and r.
-fn score(
-    metric: Metric,
-    expected: &[f64],
-    returns: &[f64],
-    return_rows: usize,
-    confidence: f64,
-    cov: &[f64],
-    n: usize,
-    left: &[usize],
-    right: &[usize],
-    l: f64,
-    r: f64,
-    scratch: &mut [f64],
-) -> Split
-    requires { ⌜ Fed metric (inputs (now expected) (now returns) «return_rows» confidence) n ⌝ }
-    requires { ⌜ varianceAnswer (now cov) n n (now left) ≡ risk.Of l ⌝ }
-    requires { ⌜ varianceAnswer (now cov) n n (now right) ≡ risk.Of r ⌝ }
-    requires { ⌜ Blank (now scratch) ⌝ }
-    ensures { λ s. ⌜ s ≡ scored metric (inputs (now (expected .entry)) (now (returns .entry)) «return_rows» confidence) (now (cov .entry)) n (now (left .entry)) (now (right .entry)) l r ⌝ }
-    ensures { λ _. ⌜ now (scratch .exit) ≡ now (scratch .entry) ⌝ }
+// How much of the scratch a split needs: the series of a tail-risk metric, and its start.
+fn series_room(metric: Metric, return_rows: usize) -> usize
+    requires { ⌜ (isTailRisk metric ≡ true → «return_rows» ≤ 4096) ⌝ }
+    ensures { λ r. ⌜ r ≤ 4097 ⌝ }
+    ensures { λ r. ⌜ (isTailRisk metric ≡ true → r ≡ «return_rows» + 1) ⌝ }
 {
-    match metric {
-        Metric::MinimumVariance => by_risk(l, r),
-        Metric::MinimumStandardDeviation => by_risk(arithmetic::sqrt(l), arithmetic::sqrt(r)),
-        Metric::SharpeRatio => {
-            let s = ratio_of(expected, cov, n, left, l);
-            let t = ratio_of(expected, cov, n, right, r);
-            by_ratio(s, t, l, r)
-        }
-        Metric::EqualWeighting => split_by(l, r, 0.5),
-        Metric::ExpectedShortfall => {
-            let s = shortfall_of(returns, return_rows, cov, n, left, confidence, l, scratch);
-            let t = shortfall_of(returns, return_rows, cov, n, right, confidence, r, scratch);
-            by_risk(s, t)
-        }
-        Metric::ConditionalDrawdownRisk => {
-            let s = drawdown_of(returns, return_rows, cov, n, left, confidence, l, scratch);
-            let t = drawdown_of(returns, return_rows, cov, n, right, confidence, r, scratch);
-            by_risk(s, t)
-        }
+    if metrics::is_tail_risk(metric) {
+        return return_rows + 1;
     }
+    0
 }
 
-// Both variances come first, whatever the metric.
-fn split_factor(
+// The split of two sides. The call clears all that it is lent: no more than it needs.
+fn split_at(
     metric: Metric,
     expected: &[f64],
     returns: &[f64],
@@ -255,33 +62,23 @@ fn split_factor(
 ) -> Splitting
     requires { ⌜ Fed metric (inputs (now expected) (now returns) «return_rows» confidence) n ⌝ }
     requires { ⌜ Blank (now scratch) ⌝ }
-    ensures { λ s. ⌜ s ≡ splitOf metric (inputs (now (expected .entry)) (now (returns .entry)) «return_rows» confidence) (now (cov .entry)) n (now (left .entry)) (now (right .entry)) ⌝ }
+    ensures { λ s. ⌜ s ≡ splitOf metric (inputs (now (expected .entry)) (now (returns .entry)) «return_rows» confidence)
+        (now (cov .entry)) n (now (left .entry)) (now (right .entry)) ⌝ }
     ensures { λ _. ⌜ now (scratch .exit) ≡ now (scratch .entry) ⌝ }
 {
-    let a = clusters::cluster_variance(cov, n, n, left);
-    let b = clusters::cluster_variance(cov, n, n, right);
-    match a {
-        Risk::Refused(k) => Splitting::Refused(k),
-        Risk::Of(l) => match b {
-            Risk::Refused(k) => Splitting::Refused(k),
-            Risk::Of(r) => {
-                Splitting::By(score(
-                    metric,
-                    expected,
-                    returns,
-                    return_rows,
-                    confidence,
-                    cov,
-                    n,
-                    left,
-                    right,
-                    l,
-                    r,
-                    scratch,
-                ))
-            }
-        },
-    }
+    let m = series_room(metric, return_rows);
+    metrics::split_factor(
+        metric,
+        expected,
+        returns,
+        return_rows,
+        confidence,
+        cov,
+        n,
+        left,
+        right,
+        &mut scratch[..m],
+    )
 }
 
 // Writes the leaves below a node to the front of out, and says how many there are.
@@ -409,26 +206,30 @@ fn inside(
 // Shares a weight out below a node, whose leaves are the members; false where a side, or a cut cluster, is refused.
 fn share(
     metric: Metric,
+    plan: Plan,
     expected: &[f64],
     returns: &[f64],
-    return_rows: usize,
-    confidence: f64,
     cov: &[f64],
     rows: &[usize],
-    n: usize,
-    clusters: usize,
     node: Node,
     members: &[usize],
     weight: f64,
     weights: &mut [f64],
     scratch: &mut [f64],
 ) -> bool
-    requires { ⌜ Down metric (inputs (now expected) (now returns) «return_rows» confidence) (now rows) n clusters (node .0) (now members) (now weights) ⌝ }
+    requires { ⌜ Down metric (inputs (now expected) (now returns) (plan .periods) (plan .confidence))
+        (now rows) (plan .n) (plan .clusters) (node .0) (now members) (now weights) ⌝ }
     requires { ⌜ Blank (now scratch) ⌝ }
-    ensures { λ r. ⌜ told r (now (weights .exit)) ≡ allottedAt metric (inputs (now (expected .entry)) (now (returns .entry)) «return_rows» confidence) (now (cov .entry)) (now (rows .entry)) n clusters (node .0) weight (now (weights .entry)) ⌝ }
+    ensures { λ r. ⌜ told r (now (weights .exit))
+        ≡ allottedAt metric (inputs (now (expected .entry)) (now (returns .entry)) (plan .periods) (plan .confidence))
+        (now (cov .entry)) (now (rows .entry)) (plan .n) (plan .clusters) (node .0) weight (now (weights .entry)) ⌝ }
     ensures { λ _. ⌜ now (scratch .exit) ≡ now (scratch .entry) ⌝ }
 {
     let at = node.0;
+    let n = plan.n;
+    let clusters = plan.clusters;
+    let periods = plan.periods;
+    let confidence = plan.confidence;
     if at < n {
         give(Asset(at), weight, weights);
         return true;
@@ -440,11 +241,11 @@ fn share(
     let a = rows[2 * k];
     let b = rows[2 * k + 1];
     let l = leaf_count(rows, n, Node(a));
-    let Splitting::By(s) = split_factor(
+    let Splitting::By(s) = split_at(
         metric,
         expected,
         returns,
-        return_rows,
+        periods,
         confidence,
         cov,
         n,
@@ -457,14 +258,11 @@ fn share(
     let f = s.factor;
     if !share(
         metric,
+        plan,
         expected,
         returns,
-        return_rows,
-        confidence,
         cov,
         rows,
-        n,
-        clusters,
         Node(a),
         &members[..l],
         weight * f,
@@ -475,14 +273,11 @@ fn share(
     }
     share(
         metric,
+        plan,
         expected,
         returns,
-        return_rows,
-        confidence,
         cov,
         rows,
-        n,
-        clusters,
         Node(b),
         &members[l..],
         weight * (1.0 - f),
@@ -491,57 +286,72 @@ fn share(
     )
 }
 
-pub fn is_sharpe(metric: Metric) -> bool
-    ensures { λ r. ⌜ r ≡ isSharpe metric ⌝ }
-{
-    match metric {
-        Metric::MinimumVariance => false,
-        Metric::MinimumStandardDeviation => false,
-        Metric::SharpeRatio => true,
-        Metric::EqualWeighting => false,
-        Metric::ExpectedShortfall => false,
-        Metric::ConditionalDrawdownRisk => false,
-    }
-}
-
-pub fn is_tail_risk(metric: Metric) -> bool
-    ensures { λ r. ⌜ r ≡ isTailRisk metric ⌝ }
-{
-    match metric {
-        Metric::MinimumVariance => false,
-        Metric::MinimumStandardDeviation => false,
-        Metric::SharpeRatio => false,
-        Metric::EqualWeighting => false,
-        Metric::ExpectedShortfall => true,
-        Metric::ConditionalDrawdownRisk => true,
-    }
-}
-
-// The refusal, if there is one, that comes before anything is shared out: the last line first.
-fn judge(
-    metric: Metric,
-    expected: &[f64],
-    given: bool,
-    returns: &[f64],
-    return_rows: usize,
-    return_columns: usize,
-    confidence: f64,
-    cov: &[f64],
+// What the sizes alone refuse: the last line first.
+fn judge_sizes(
+    n: usize,
+    cells: usize,
     height: usize,
     width: usize,
-    rows: &[usize],
-    n: usize,
-    clusters: usize,
+    return_cells: usize,
+    return_rows: usize,
+    return_columns: usize,
     room: usize,
     scratch: usize,
 ) -> Outcome
-    ensures { λ r. ⌜ r ≡ first (callTable (call metric (inputs (now (expected .entry)) (now (returns .entry)) «return_rows» confidence) given «return_columns» (now (cov .entry)) height width (now (rows .entry)) n clusters) room scratch) ⌝ }
+    ensures { λ r. ⌜ r ≡ first (downSizeLines (record {
+      assets = n;
+      covariance-cells = cells;
+      covariance-rows = height;
+      covariance-columns = width;
+      return-cells = «return_cells»;
+      return-rows = «return_rows»;
+      return-columns = «return_columns»;
+      room = room;
+      scratch = scratch;
+    })) ⌝ }
+{
+    let other_size = refusal::either(height != n, width != n);
+    let rest = refusal::refuse(other_size, Refusal::DimensionMismatch, Outcome::Done);
+    let rest = refusal::refuse(scratch < lent::LEAST_SCRATCH, Refusal::ShortBuffer, rest);
+    let rest = refusal::refuse(room < n, Refusal::ShortBuffer, rest);
+    let ragged = lent::has_other_length(return_cells, return_rows, return_columns);
+    let rest = refusal::refuse(ragged, Refusal::SliceLength, rest);
+    let misfit = lent::has_other_length(cells, height, width);
+    let rest = refusal::refuse(misfit, Refusal::SliceLength, rest);
+    let many = lent::over_limit(return_rows, return_columns);
+    let rest = refusal::refuse(many, Refusal::OverLimit, rest);
+    let rest = refusal::refuse(lent::over_limit(height, width), Refusal::OverLimit, rest);
+    refusal::refuse(lent::MOST_ASSETS < n, Refusal::OverLimit, rest)
+}
+
+// What the metric, the tree and the cluster count refuse: the last line first.
+fn judge_rules(
+    metric: Metric,
+    given: bool,
+    expected: usize,
+    return_rows: usize,
+    return_columns: usize,
+    confidence: f64,
+    rows: &[usize],
+    n: usize,
+    clusters: usize,
+) -> Outcome
+    ensures { λ r. ⌜ r ≡ first (downRuleLines (record {
+      metric = metric;
+      expected-given = given;
+      expected-length = expected;
+      return-rows = «return_rows»;
+      return-columns = «return_columns»;
+      confidence = confidence;
+      rows = now (rows .entry);
+      assets = n;
+      clusters = clusters;
+    })) ⌝ }
 {
     let sharpe = is_sharpe(metric);
     let tail = is_tail_risk(metric);
     let missing = refusal::both(sharpe, !given);
-    let unexpected = refusal::both(sharpe, refusal::both(given, expected.len() != n));
-    let other_size = refusal::either(height != n, width != n);
+    let unexpected = refusal::both(sharpe, refusal::both(given, expected != n));
     let other_rows = refusal::both(tail, refusal::both(0 < return_rows, return_columns != n));
     let no_rows = refusal::both(tail, return_rows == 0);
     let no_part = refusal::both(tail, ordering::is_no_part(confidence));
@@ -557,18 +367,16 @@ fn judge(
     let rest = refusal::refuse(!tree::is_tree(rows, n), Refusal::NoTree, rest);
     let rest = refusal::refuse(n == 0, Refusal::NoData, rest);
     let rest = refusal::refuse(other_rows, Refusal::DimensionMismatch, rest);
-    let rest = refusal::refuse(unexpected, Refusal::DimensionMismatch, rest);
-    let rest = refusal::refuse(other_size, Refusal::DimensionMismatch, rest);
-    let rest = refusal::refuse(scratch < lent::LEAST_SCRATCH, Refusal::ShortBuffer, rest);
-    let rest = refusal::refuse(room < n, Refusal::ShortBuffer, rest);
-    let ragged = lent::has_other_length(returns.len(), return_rows, return_columns);
-    let rest = refusal::refuse(ragged, Refusal::SliceLength, rest);
-    let misfit = lent::has_other_length(cov.len(), height, width);
-    let rest = refusal::refuse(misfit, Refusal::SliceLength, rest);
-    let many = lent::over_limit(return_rows, return_columns);
-    let rest = refusal::refuse(many, Refusal::OverLimit, rest);
-    let rest = refusal::refuse(lent::over_limit(height, width), Refusal::OverLimit, rest);
-    refusal::refuse(lent::MOST_ASSETS < n, Refusal::OverLimit, rest)
+    refusal::refuse(unexpected, Refusal::DimensionMismatch, rest)
+}
+
+// What the recursion refuses leaves nothing of the weights given out before it.
+fn refused(weights: &mut [f64]) -> Answer
+    ensures { λ r. ⌜ r ≡ answer.Refused NoData ⌝ }
+    ensures { λ _. ⌜ now (weights .exit) ≡ zeros (length (now (weights .entry))) ⌝ }
+{
+    lent::clear(weights);
+    Answer::Refused(Refusal::NoData)
 }
 
 // The weights of n assets, shared out from the last merge row's node down. Scratch is left zero.
@@ -589,27 +397,39 @@ pub fn allocate_down_tree(
     out: &mut [f64],
     scratch: &mut [f64],
 ) -> Answer
-    ensures { λ r. ⌜ r ≡ downAnswer (call metric (inputs (now (expected .entry)) (now (returns .entry)) «return_rows» confidence) «expected_given» «return_columns» (now (covariance .entry)) «covariance_rows» «covariance_columns» (now (rows .entry)) n clusters) (length (now (out .entry))) (length (now (scratch .entry))) ⌝ }
-    ensures { λ _. ⌜ now (out .exit) ≡ downWeights (call metric (inputs (now (expected .entry)) (now (returns .entry)) «return_rows» confidence) «expected_given» «return_columns» (now (covariance .entry)) «covariance_rows» «covariance_columns» (now (rows .entry)) n clusters) (length (now (out .entry))) (length (now (scratch .entry))) ⌝ }
+    ensures { λ r. ⌜ r ≡ downAnswer
+        (downCall metric (inputs (now (expected .entry)) (now (returns .entry)) «return_rows» confidence) «expected_given» «return_columns»
+        (now (covariance .entry)) «covariance_rows» «covariance_columns» (now (rows .entry)) n clusters)
+        (length (now (out .entry))) (length (now (scratch .entry))) ⌝ }
+    ensures { λ _. ⌜ now (out .exit) ≡ downWeights
+        (downCall metric (inputs (now (expected .entry)) (now (returns .entry)) «return_rows» confidence) «expected_given» «return_columns»
+        (now (covariance .entry)) «covariance_rows» «covariance_columns» (now (rows .entry)) n clusters)
+        (length (now (out .entry))) (length (now (scratch .entry))) ⌝ }
     ensures { λ _. ⌜ now (scratch .exit) ≡ zeros (length (now (scratch .entry))) ⌝ }
 {
-    let said = judge(
-        metric,
-        expected,
-        expected_given,
-        returns,
-        return_rows,
-        return_columns,
-        confidence,
-        covariance,
+    let sizes = judge_sizes(
+        n,
+        covariance.len(),
         covariance_rows,
         covariance_columns,
-        rows,
-        n,
-        clusters,
+        returns.len(),
+        return_rows,
+        return_columns,
         out.len(),
         scratch.len(),
     );
+    let rules = judge_rules(
+        metric,
+        expected_given,
+        expected.len(),
+        return_rows,
+        return_columns,
+        confidence,
+        rows,
+        n,
+        clusters,
+    );
+    let said = refusal::and_then(sizes, rules);
     lent::clear(out);
     lent::clear(scratch);
     let Outcome::Done = said else {
@@ -618,24 +438,26 @@ pub fn allocate_down_tree(
     let root = Node(2 * n - 2);
     let mut order = [0usize; 64];
     let m = leaves(rows, n, root, &mut order);
-    if !share(
-        metric,
-        expected,
-        returns,
-        return_rows,
+    let plan = Plan {
+        periods: return_rows,
         confidence,
-        covariance,
-        rows,
         n,
         clusters,
+    };
+    if !share(
+        metric,
+        plan,
+        expected,
+        returns,
+        covariance,
+        rows,
         root,
         &order[..m],
         1.0,
         &mut out[..n],
         scratch,
     ) {
-        lent::clear(out);
-        return Answer::Refused(Refusal::NoData);
+        return refused(out);
     }
     lent::answered(said, 1, n)
 }

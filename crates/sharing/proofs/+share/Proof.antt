@@ -18,12 +18,12 @@ use Rattle.sharing.proofs.+share.Lts-share as share-lts
 use Rattle.sharing.proofs.give.Reads as give-reads
 use Rattle.sharing.proofs.inside.Reads as inside-reads
 use Rattle.sharing.proofs.leaf_count.Reads as leaf-count-reads
-use Rattle.sharing.proofs.split_factor.Reads as split-factor-reads
+use Rattle.sharing.proofs.split_at.Reads as split-at-reads
 use Rattle.sharing.proofs.+share.{statement}
 use Rattle.sharing.proofs.+share.Tie.{close}
 
 abbrev μ : Measures 7 share-kinds.ps ℕ
-μ κs a = a .1 .1 .1 .1 .1 .1 .1 .1 .1 .0 .0
+μ κs a = a .1 .1 .1 .1 .1 .1 .0 .0
 
 abbrev given : ℕ → In 7 share-kinds.ps
 given t = and 7 share-kinds.ps (is 7 share-kinds.ps μ t) share.Pre
@@ -36,8 +36,8 @@ calls t = (
   inside-reads.Learnt,
   leaf-count-reads.Asked,
   leaf-count-reads.Learnt,
-  split-factor-reads.Asked,
-  split-factor-reads.Learnt,
+  split-at-reads.Asked,
+  split-at-reads.Learnt,
   and 7 share-kinds.ps (falls 7 share-kinds.ps _<_ μ t) share.Pre,
   share.Post,
 )
@@ -88,23 +88,23 @@ module _ (t : ℕ) where
   leaf-count-requires : share-lts.Need-leaf-count-requires (calls t) (given t) share.Post
   leaf-count-requires c κs = below-left (c .before .before .before .before .before .before .before .before .before .before .before .pre .1 .0 .node) (c .before .before .before .if1 .left)
 
-  slice-aggregate-split-factor : share-lts.Need-slice-aggregate-split-factor (calls t) (given t) share.Post
-  slice-aggregate-split-factor c = sym (length-take-le _ _ (left-fits (c .before .before .before .before .before .before .before .before .before .before .before .before .before .pre .1 .0) (c .before .before .before .before .before .if1 .left) (c .before .leaf-count .ensures)))
+  slice-aggregate-split-at : share-lts.Need-slice-aggregate-split-at (calls t) (given t) share.Post
+  slice-aggregate-split-at c = sym (length-take-le _ _ (left-fits (c .before .before .before .before .before .before .before .before .before .before .before .before .before .pre .1 .0) (c .before .before .before .before .before .if1 .left) (c .before .leaf-count .ensures)))
 
-  mul-split-factor : share-lts.Need-mul-split-factor (calls t) (given t) share.Post
-  mul-split-factor c = omega (arith, left-few (c .before .before .before .before .before .before .before .before .before .before .before .before .before .pre .1 .0) (c .before .before .before .before .before .if1 .left) (c .before .leaf-count .ensures))
+  mul-split-at : share-lts.Need-mul-split-at (calls t) (given t) share.Post
+  mul-split-at c = omega (arith, left-few (c .before .before .before .before .before .before .before .before .before .before .before .before .before .pre .1 .0) (c .before .before .before .before .before .if1 .left) (c .before .leaf-count .ensures))
 
-  sub-split-factor : share-lts.Need-sub-split-factor (calls t) (given t) share.Post
-  sub-split-factor c = left-fits (c .before .before .before .before .before .before .before .before .before .before .before .before .before .pre .1 .0) (c .before .before .before .before .before .if1 .left) (c .before .leaf-count .ensures)
+  sub-split-at : share-lts.Need-sub-split-at (calls t) (given t) share.Post
+  sub-split-at c = left-fits (c .before .before .before .before .before .before .before .before .before .before .before .before .before .pre .1 .0) (c .before .before .before .before .before .if1 .left) (c .before .leaf-count .ensures)
 
-  part-split-factor-start : share-lts.Need-part-split-factor-start (calls t) (given t) share.Post
-  part-split-factor-start c = left-fits (c .before .before .before .before .before .before .before .before .before .before .before .before .before .pre .1 .0) (c .before .before .before .before .before .if1 .left) (c .before .leaf-count .ensures)
+  part-split-at-start : share-lts.Need-part-split-at-start (calls t) (given t) share.Post
+  part-split-at-start c = left-fits (c .before .before .before .before .before .before .before .before .before .before .before .before .before .pre .1 .0) (c .before .before .before .before .before .if1 .left) (c .before .leaf-count .ensures)
 
-  part-split-factor-end : share-lts.Need-part-split-factor-end (calls t) (given t) share.Post
-  part-split-factor-end c = search needs
+  part-split-at-end : share-lts.Need-part-split-at-end (calls t) (given t) share.Post
+  part-split-at-end c = search needs
 
-  split-factor-requires : share-lts.Need-split-factor-requires (calls t) (given t) share.Post
-  split-factor-requires c κs = (c .before .before .before .before .before .before .before .before .before .before .before .before .before .before .before .pre .1 .0 .fed, c .before .before .before .before .before .before .before .before .before .before .before .before .before .before .before .pre .1 .1)
+  split-at-requires : share-lts.Need-split-at-requires (calls t) (given t) share.Post
+  split-at-requires c κs = (c .before .before .before .before .before .before .before .before .before .before .before .before .before .before .before .pre .1 .0 .fed, c .before .before .before .before .before .before .before .before .before .before .before .before .before .before .before .pre .1 .1)
 
   enum-known-s : share-lts.Need-enum-known-s (calls t) (given t) share.Post
   enum-known-s c = search needs
@@ -113,13 +113,13 @@ module _ (t : ℕ) where
   enum-told c = search needs
 
   same-length-3 : share-lts.Need-same-length-3 (calls t) (given t) share.Post
-  same-length-3 c = c .before .before .before .before .split-factor .kept .1 .1 .1 .1 .1 .1 .1 .1 .1 .0
+  same-length-3 c = c .before .before .before .before .split-at .kept .1 .1 .1 .1 .1 .1 .1 .1 .1 .0
 
   returns-3 : share-lts.Need-returns-3 (calls t) (given t) share.Post
   returns-3 c =
       let s = c .before .before .before .before .before .before .before .before .before .before .before .before .before .before .before .before .before .before .before .before in
       let ge = c .before .before .before .before .before .before .before .before .before .before .before .before .if1 .left in
-      (told-no _ ∙ sym (no-split (s .pre .1 .0) (s .args .cov .now) (s .args .weight) ge (c .before .before .before .before .before .before .before .before .before .before .before .if2 .left) (c .before .before .before .before .before .before .before .before .leaf-count .ensures) (c .before .before .before .before .split-factor .ensures .0) (c .enum-told .given .1)), c .before .before .before .before .split-factor .ensures .1)
+      (told-no _ ∙ sym (no-split (s .pre .1 .0) (s .args .cov .now) (s .args .weight) ge (c .before .before .before .before .before .before .before .before .before .before .before .if2 .left) (c .before .before .before .before .before .before .before .before .leaf-count .ensures) (c .before .before .before .before .split-at .ensures .0) (c .enum-told .given .1)), c .before .before .before .before .split-at .ensures .1)
 
   slice-aggregate-share : share-lts.Need-slice-aggregate-share (calls t) (given t) share.Post
   slice-aggregate-share c = sym (length-take-le _ _ (left-fits (c .before .before .before .before .before .before .before .before .before .before .before .before .before .before .before .before .before .before .before .before .before .before .pre .1 .0) (c .before .before .before .before .before .before .before .before .before .before .before .before .before .before .if1 .left) (c .before .before .before .before .before .before .before .before .before .before .leaf-count .ensures)))
@@ -128,20 +128,20 @@ module _ (t : ℕ) where
   share-requires c κs =
       let s = c .before .before .before .before .before .before .before .before .before .before .before .before .before .before .before .before .before .before .before .before .before .before .before .before in
       let ge = c .before .before .before .before .before .before .before .before .before .before .before .before .before .before .before .before .if1 .left in
-      (omega (arith, left-falls (s .pre .1 .0 .node .on) ge, s .pre .0), (down-left (s .pre .1 .0) ge (c .before .before .before .before .before .before .before .before .before .before .before .before .leaf-count .ensures), blank-still (s .pre .1 .1) (c .before .before .before .before .before .before .before .before .split-factor .ensures .1)))
+      (omega (arith, left-falls (s .pre .1 .0 .node .on) ge, s .pre .0), (down-left (s .pre .1 .0) ge (c .before .before .before .before .before .before .before .before .before .before .before .before .leaf-count .ensures), blank-still (s .pre .1 .1) (c .before .before .before .before .before .before .before .before .split-at .ensures .1)))
 
   same-length-4 : share-lts.Need-same-length-4 (calls t) (given t) share.Post
-  same-length-4 c = c .before .before .before .before .before .share .kept .1 .1 .1 .1 .1 .1 .1 .1 .1 .1 .1 .1 .0
+  same-length-4 c = c .before .before .before .before .before .share .kept .1 .1 .1 .1 .1 .1 .1 .1 .1 .0
 
   same-length-5 : share-lts.Need-same-length-5 (calls t) (given t) share.Post
-  same-length-5 c = c .before .before .before .before .before .share .kept .1 .1 .1 .1 .1 .1 .1 .1 .1 .1 .1 .1 .1 .0 ∙ c .before .before .before .before .before .before .before .before .before .before .before .before .before .before .split-factor .kept .1 .1 .1 .1 .1 .1 .1 .1 .1 .0
+  same-length-5 c = c .before .before .before .before .before .share .kept .1 .1 .1 .1 .1 .1 .1 .1 .1 .1 .0 ∙ c .before .before .before .before .before .before .before .before .before .before .before .before .before .before .split-at .kept .1 .1 .1 .1 .1 .1 .1 .1 .1 .0
 
   returns-4 : share-lts.Need-returns-4 (calls t) (given t) share.Post
   returns-4 c =
       let s = c .before .before .before .before .before .before .before .before .before .before .before .before .before .before .before .before .before .before .before .before .before .before .before .before .before .before .before .before .before .before in
       let ge = c .before .before .before .before .before .before .before .before .before .before .before .before .before .before .before .before .before .before .before .before .before .before .if1 .left in
       let one = c .before .before .before .before .before .share in
-      (told-no _ ∙ sym (left-refused (s .pre .1 .0) (s .args .cov .now) (s .args .weight) ge (c .before .before .before .before .before .before .before .before .before .before .before .before .before .before .before .before .before .before .before .before .before .if2 .left) (c .before .before .before .before .before .before .before .before .before .before .before .before .before .before .before .before .before .before .leaf-count .ensures) (c .before .before .before .before .before .before .before .before .before .before .before .before .before .before .split-factor .ensures .0) (c .before .before .before .before .before .before .before .before .before .before .s .given .1) (one .result) (one .last .1 .1 .1 .1 .1 .1 .1 .1 .1 .1 .1 .1 .0) (one .ensures .0) (not-true (one .result) (c .if3 .taken))), one .ensures .1 ∙ c .before .before .before .before .before .before .before .before .before .before .before .before .before .before .split-factor .ensures .1)
+      (told-no _ ∙ sym (left-refused (s .pre .1 .0) (s .args .cov .now) (s .args .weight) ge (c .before .before .before .before .before .before .before .before .before .before .before .before .before .before .before .before .before .before .before .before .before .if2 .left) (c .before .before .before .before .before .before .before .before .before .before .before .before .before .before .before .before .before .before .leaf-count .ensures) (c .before .before .before .before .before .before .before .before .before .before .before .before .before .before .split-at .ensures .0) (c .before .before .before .before .before .before .before .before .before .before .s .given .1) (one .result) (one .last .1 .1 .1 .1 .1 .1 .1 .1 .1 .0) (one .ensures .0) (not-true (one .result) (c .if3 .taken))), one .ensures .1 ∙ c .before .before .before .before .before .before .before .before .before .before .before .before .before .before .split-at .ensures .1)
 
   mul-share : share-lts.Need-mul-share (calls t) (given t) share.Post
   mul-share c = omega (arith, left-few (c .before .before .before .before .before .before .before .before .before .before .before .before .before .before .before .before .before .before .before .before .before .before .before .before .before .before .before .before .before .before .pre .1 .0) (c .before .before .before .before .before .before .before .before .before .before .before .before .before .before .before .before .before .before .before .before .before .before .if1 .left) (c .before .before .before .before .before .before .before .before .before .before .before .before .before .before .before .before .before .before .leaf-count .ensures))
@@ -159,20 +159,20 @@ module _ (t : ℕ) where
   share-requires-2 c κs =
       let s = c .before .before .before .before .before .before .before .before .before .before .before .before .before .before .before .before .before .before .before .before .before .before .before .before .before .before .before .before .before .before .before .before .before in
       let ge = c .before .before .before .before .before .before .before .before .before .before .before .before .before .before .before .before .before .before .before .before .before .before .before .before .before .if1 .left in
-      (omega (arith, right-falls (s .pre .1 .0 .node .on) ge, s .pre .0), (down-right (s .pre .1 .0) ge (c .before .before .before .before .before .before .before .before .before .before .before .before .before .before .before .before .before .before .before .before .before .leaf-count .ensures) (c .before .before .before .before .before .before .before .before .share .kept .1 .1 .1 .1 .1 .1 .1 .1 .1 .1 .1 .1 .0), blank-still (s .pre .1 .1) (c .before .before .before .before .before .before .before .before .share .ensures .1 ∙ c .before .before .before .before .before .before .before .before .before .before .before .before .before .before .before .before .before .split-factor .ensures .1)))
+      (omega (arith, right-falls (s .pre .1 .0 .node .on) ge, s .pre .0), (down-right (s .pre .1 .0) ge (c .before .before .before .before .before .before .before .before .before .before .before .before .before .before .before .before .before .before .before .before .before .leaf-count .ensures) (c .before .before .before .before .before .before .before .before .share .kept .1 .1 .1 .1 .1 .1 .1 .1 .1 .0), blank-still (s .pre .1 .1) (c .before .before .before .before .before .before .before .before .share .ensures .1 ∙ c .before .before .before .before .before .before .before .before .before .before .before .before .before .before .before .before .before .split-at .ensures .1)))
 
   same-length-6 : share-lts.Need-same-length-6 (calls t) (given t) share.Post
-  same-length-6 c = c .before .before .before .before .share2 .kept .1 .1 .1 .1 .1 .1 .1 .1 .1 .1 .1 .1 .0 ∙ c .before .before .before .before .before .before .before .before .before .before .before .before .before .share .kept .1 .1 .1 .1 .1 .1 .1 .1 .1 .1 .1 .1 .0
+  same-length-6 c = c .before .before .before .before .share2 .kept .1 .1 .1 .1 .1 .1 .1 .1 .1 .0 ∙ c .before .before .before .before .before .before .before .before .before .before .before .before .before .share .kept .1 .1 .1 .1 .1 .1 .1 .1 .1 .0
 
   same-length-7 : share-lts.Need-same-length-7 (calls t) (given t) share.Post
-  same-length-7 c = c .before .before .before .before .share2 .kept .1 .1 .1 .1 .1 .1 .1 .1 .1 .1 .1 .1 .1 .0 ∙ c .before .before .before .before .before .before .before .before .before .before .before .before .before .share .kept .1 .1 .1 .1 .1 .1 .1 .1 .1 .1 .1 .1 .1 .0 ∙ c .before .before .before .before .before .before .before .before .before .before .before .before .before .before .before .before .before .before .before .before .before .before .split-factor .kept .1 .1 .1 .1 .1 .1 .1 .1 .1 .0
+  same-length-7 c = c .before .before .before .before .share2 .kept .1 .1 .1 .1 .1 .1 .1 .1 .1 .1 .0 ∙ c .before .before .before .before .before .before .before .before .before .before .before .before .before .share .kept .1 .1 .1 .1 .1 .1 .1 .1 .1 .1 .0 ∙ c .before .before .before .before .before .before .before .before .before .before .before .before .before .before .before .before .before .before .before .before .before .before .split-at .kept .1 .1 .1 .1 .1 .1 .1 .1 .1 .0
 
   returns-5 : share-lts.Need-returns-5 (calls t) (given t) share.Post
   returns-5 c =
       let s = c .before .before .before .before .before .before .before .before .before .before .before .before .before .before .before .before .before .before .before .before .before .before .before .before .before .before .before .before .before .before .before .before .before .before .before .before .before .before in
       let ge = c .before .before .before .before .before .before .before .before .before .before .before .before .before .before .before .before .before .before .before .before .before .before .before .before .before .before .before .before .before .before .if1 .left in
       let one = c .before .before .before .before .before .before .before .before .before .before .before .before .before .share in
-      (both (s .pre .1 .0) (s .args .cov .now) (s .args .weight) ge (c .before .before .before .before .before .before .before .before .before .before .before .before .before .before .before .before .before .before .before .before .before .before .before .before .before .before .before .before .before .if2 .left) (c .before .before .before .before .before .before .before .before .before .before .before .before .before .before .before .before .before .before .before .before .before .before .before .before .before .before .leaf-count .ensures) (c .before .before .before .before .before .before .before .before .before .before .before .before .before .before .before .before .before .before .before .before .before .before .split-factor .ensures .0) (c .before .before .before .before .before .before .before .before .before .before .before .before .before .before .before .before .before .before .s .given .1) (one .result) (one .last .1 .1 .1 .1 .1 .1 .1 .1 .1 .1 .1 .1 .0) (one .ensures .0) (not-false (one .result) (c .before .before .before .before .before .before .before .before .if3 .left)) (c .before .before .before .before .share2 .ensures .0), c .before .before .before .before .share2 .ensures .1 ∙ one .ensures .1 ∙ c .before .before .before .before .before .before .before .before .before .before .before .before .before .before .before .before .before .before .before .before .before .before .split-factor .ensures .1)
+      (both (s .pre .1 .0) (s .args .cov .now) (s .args .weight) ge (c .before .before .before .before .before .before .before .before .before .before .before .before .before .before .before .before .before .before .before .before .before .before .before .before .before .before .before .before .before .if2 .left) (c .before .before .before .before .before .before .before .before .before .before .before .before .before .before .before .before .before .before .before .before .before .before .before .before .before .before .leaf-count .ensures) (c .before .before .before .before .before .before .before .before .before .before .before .before .before .before .before .before .before .before .before .before .before .before .split-at .ensures .0) (c .before .before .before .before .before .before .before .before .before .before .before .before .before .before .before .before .before .before .s .given .1) (one .result) (one .last .1 .1 .1 .1 .1 .1 .1 .1 .1 .0) (one .ensures .0) (not-false (one .result) (c .before .before .before .before .before .before .before .before .if3 .left)) (c .before .before .before .before .share2 .ensures .0), c .before .before .before .before .share2 .ensures .1 ∙ one .ensures .1 ∙ c .before .before .before .before .before .before .before .before .before .before .before .before .before .before .before .before .before .before .before .before .before .before .split-at .ensures .1)
 
 pub +share-spec : {M : Type 1} → statement M
-+share-spec = close μ λ t. share-lts.spec (calls t) (given t) share.Post (give-requires t) (same-length t) (returns t) (add-if2 t) (inside-requires t) (same-length-2 t) (returns-2 t) (mul-a t) (mul-a-2 t) (shared-slice-read-a t) (mul-b t) (add-b t) (mul-b-2 t) (shared-slice-read-b t) (leaf-count-requires t) (slice-aggregate-split-factor t) (mul-split-factor t) (sub-split-factor t) (part-split-factor-start t) (part-split-factor-end t) (split-factor-requires t) (enum-known-s t) (enum-told t) (same-length-3 t) (returns-3 t) (slice-aggregate-share t) (share-requires t) (same-length-4 t) (same-length-5 t) (returns-4 t) (mul-share t) (sub-share t) (part-share-start t) (part-share-end t) (share-requires-2 t) (same-length-6 t) (same-length-7 t) (returns-5 t)
++share-spec = close μ λ t. share-lts.spec (calls t) (given t) share.Post (give-requires t) (same-length t) (returns t) (add-if2 t) (inside-requires t) (same-length-2 t) (returns-2 t) (mul-a t) (mul-a-2 t) (shared-slice-read-a t) (mul-b t) (add-b t) (mul-b-2 t) (shared-slice-read-b t) (leaf-count-requires t) (slice-aggregate-split-at t) (mul-split-at t) (sub-split-at t) (part-split-at-start t) (part-split-at-end t) (split-at-requires t) (enum-known-s t) (enum-told t) (same-length-3 t) (returns-3 t) (slice-aggregate-share t) (share-requires t) (same-length-4 t) (same-length-5 t) (returns-4 t) (mul-share t) (sub-share t) (part-share-start t) (part-share-end t) (share-requires-2 t) (same-length-6 t) (same-length-7 t) (returns-5 t)

@@ -25,7 +25,7 @@ deal-requires : tie.Need-deal-requires
 deal-requires c κs = c .before .before .before .before .before .before .before .before .before .before .pre
 
 same-length : tie.Need-same-length
-same-length c = search needs
+same-length c = c .before .before .deal .kept .1 .1 .1 .0
 
 returns-2 : tie.Need-returns-2
 returns-2 c = told-yes _ ∙ varied-some _ _ _ _ _ (c .before .before .before .before .before .before .before .before .before .before .before .before .before .pre .few) _ _ _ _ (sym (c .before .before .before .before .before .before .before .before .inverse-variance-weights .ensures .0) ∙ c .before .before .before .before .before .enum-told .given .1) (c .before .before .before .before .before .before .before .before .inverse-variance-weights .ensures .1) (c .before .before .deal .ensures)

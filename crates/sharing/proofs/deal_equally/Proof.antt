@@ -11,7 +11,7 @@ spread-requires : tie.Need-spread-requires
 spread-requires c κs = c .before .before .before .before .pre
 
 same-length : tie.Need-same-length
-same-length c = search needs
+same-length c = c .before .before .spread .kept .1 .1 .0
 
 returns : tie.Need-returns
 unfolding equalOf

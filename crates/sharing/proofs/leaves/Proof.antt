@@ -15,13 +15,13 @@ enum-told : tie.Need-enum-told
 enum-told c = search needs
 
 same-length : tie.Need-same-length
-same-length c = search needs
+same-length c = c .before .before .before .before .before .quasi-diagonalization .kept .1 .1 .1 .0
 
 returns : tie.Need-returns
 returns c = front (c .before .before .before .before .before .before .before .before .before .pre .0) _ _ _ _ (c .before .before .before .before .before .before .before .before .before .pre .1) (sym (c .before .before .before .before .before .quasi-diagonalization .ensures .0) ∙ c .before .columns .given .1) (c .before .before .before .before .before .quasi-diagonalization .ensures .1)
 
 same-length-2 : tie.Need-same-length-2
-same-length-2 c = search needs
+same-length-2 c = c .before .before .before .before .quasi-diagonalization .kept .1 .1 .1 .0
 
 returns-2 : tie.Need-returns-2
 returns-2 c = front-not (c .before .before .before .before .before .before .before .before .pre .0) _ _ (c .before .before .before .before .before .before .before .before .pre .1) (sym (c .before .before .before .before .quasi-diagonalization .ensures .0) ∙ c .enum-told .given .1)
