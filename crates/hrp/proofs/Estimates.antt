@@ -1,7 +1,7 @@
 -- The covariance of a call that gives none: what the steps that make it say of the definitions. Assumes nothing.
 use Prim.Native.Nat.{ℕ, _*_, _-_, _≤_}
-use mathlib.Core.Path.{_≡_, refl, sym, _∙_}
-use mathlib.Core.Bool.{Bool, true, false}
+use mathlib.Core.Path.{_≡_, refl, sym, ap, _∙_}
+use mathlib.Core.Bool.{Bool, true, false, _&&_}
 use mathlib.Core.List.{List}
 use native.Mathlib.Omega.{arith}
 use borrow.Author.Tests.{le-ltb, eq-eqb}
@@ -9,47 +9,44 @@ use lib.Dec.{ltb}
 use lib.ListN.{length, take}
 use lib.Ieee.{Float}
 use Rattle.arithmetic.specs.Constants.{pz}
-use Rattle.refusal.specs.Table.{first, orElse}
+use Rattle.refusal.specs.Table.{first, orElse, andThen}
 use Rattle.refusal.specs.declared.Refusal.{Refusal}
 use Rattle.refusal.specs.declared.Refusal.the-variants.{NoData}
 use Rattle.refusal.specs.declared.Outcome.{Outcome}
 use Rattle.refusal.specs.declared.Outcome.the-variants.{Done, Refused}
-use Rattle.refusal.proofs.Tables.{done-refused, table-pass, table-end}
-use Rattle.lent.specs.Lent.{sizes}
+use Rattle.refusal.proofs.Tables.{done-refused, table-pass, table-end, then-refused}
+use Rattle.lent.specs.Lent.{sizes, toldOf}
 use Rattle.lent.specs.declared.Answer.{Answer}
 use Rattle.lent.specs.declared.Answer.the-variants as answer
 use Rattle.lent.specs.declared.Shape.{Shape}
 use Rattle.lent.specs.declared.Shape.the-variants.{Absent, Of}
 use Rattle.lent.proofs.Laws.{square-in, length-grid}
-use Rattle.lent.proofs.Sizes.{Sized, sized-done, squared-sized}
-use Rattle.resample.specs.Resample.{stepOf, keptRows}
+use Rattle.lent.proofs.Sizes.{Sized, sized-done, squared-sized, told-as}
+use Rattle.resample.specs.Resample.{keptRows}
 use Rattle.stats.specs.Covariance.{covarianceCell, covarianceOutcome, covarianceAnswer, covariances, shrunkCell, shrinkOutcome, shrunk}
 use Rattle.stats.proofs.Laws.{covariance-sized}
-use Rattle.linkage.specs.declared.Distance.{Distance}
-use Rattle.linkage.specs.declared.Distance.the-variants.{Correlation}
-use Rattle.inputs.specs.Inputs.{absent, rowsIn, noReturns, madeReturns, madeOutcome, madeAnswer, madeLaid}
-use Rattle.inputs.proofs.Laws.{sizes-pass, answer-made, answer-refused, laid-front, made-judged, made-done, made-answer, made-refusal, made-front}
-use Rattle.hrp.specs.Hrp.{returnRows, returnCells, estimated, shrunkIf, covarianceOf, usedCovariance}
-use Rattle.hrp.specs.Steps.{sourceSizes, Estimated, Sampled, Prepared, without}
+use Rattle.inputs.specs.Inputs.{absent, rowsOfShape, noReturns, madeReturns, madeOutcome, madeAnswer, madeLaid}
+use Rattle.inputs.proofs.Laws.{sizes-pass, laid-front, made-judged, made-done, made-answer, made-refusal, made-front}
+use Rattle.hrp.specs.Hrp.{estimated, shrunkIf}
+use Rattle.hrp.specs.Inner.{HrpEstimated, HrpSampled, HrpSource, gatheredRows, gatheredCells, gatherSizes, gatheredCovariance, gatherOutcome, HrpFitting, HrpGathered, usedBy}
 
 -- a line that refused
-hit : (t : Bool) (k : Refusal) → orElse t NoData Done ≡ Refused k → t ≡ true
+hit : (t : Bool) (k : Refusal) (o : Outcome) → orElse t NoData Done ≡ Refused k → Refused k ≡ orElse t NoData o
 unfolding orElse
-hit true k e = refl
-hit false k e = absurd (done-refused k e)
-
-passed : (t : Bool) → orElse t NoData Done ≡ Done → t ≡ false
-unfolding orElse
-passed true e = absurd (done-refused NoData (sym e))
-passed false e = refl
-
-else-hit : (t : Bool) (o : Outcome) → t ≡ true → Refused NoData ≡ orElse t NoData o
-unfolding orElse
-else-hit t o e = rw e
+hit true k o e = sym e
+hit false k o e = absurd (done-refused k e)
 
 else-pass : (t : Bool) (o : Outcome) → t ≡ false → o ≡ orElse t NoData o
 unfolding orElse
 else-pass t o e = rw e
+
+pub and-no : (a : Bool) → (a && false) ≡ false
+and-no true = refl
+and-no false = refl
+
+and-yes : (a : Bool) → (a && true) ≡ a
+and-yes true = refl
+and-yes false = refl
 
 -- n by n cells fit
 pub cells-fit : (len rows n : ℕ) → first (sizes len rows n) ≡ Done → n * n ≤ 4096
@@ -57,67 +54,63 @@ cells-fit len rows n e = square-in n (sized-done len rows n e .wide)
 
 -- ---- of returns
 
-module _ (xs : List Float) (rows n : ℕ) (ok : first (sizes (length xs) rows n) ≡ Done) where
-  outcome-is : covarianceOutcome xs rows n 4096 ≡ orElse (ltb rows 2) NoData Done
-  unfolding orElse
-  outcome-is = covariance-sized xs rows n 4096 ok ∙ rw (le-ltb 4096 (n * n) (cells-fit (length xs) rows n ok))
-
+module _ (xs : List Float) (rows n : ℕ) (ok : first (sizes (length xs) rows n) ≡ Done) (a : Answer) (r : Outcome) (h : r ≡ toldOf a) where
   length-estimated : length (estimated xs rows n) ≡ n * n
   unfolding estimated
   length-estimated = length-grid n n (covarianceCell xs rows n)
 
-  pub plain-refused : (a : Answer) (k : Refusal) (d : List Float) → a ≡ covarianceAnswer xs rows n 4096 → a ≡ answer.Refused k → Estimated xs rows n false (Refused NoData) d
-  unfolding covarianceAnswer
-  plain-refused a k d e h =
-      record {
-        answer = else-hit (ltb rows 2) Done (hit _ k (sym outcome-is ∙ answer-refused _ _ _ k (sym e ∙ h)));
-        front = λ g. absurd (done-refused NoData (sym g));
-      }
+  module _ (room : ℕ) (full : room ≡ 4096) (e : a ≡ covarianceAnswer xs rows n room) where
+    told-is : r ≡ covarianceOutcome xs rows n room
+    unfolding covarianceAnswer
+    told-is = h ∙ ap toldOf e ∙ told-as (covarianceOutcome xs rows n room) n n
 
-  pub plain-done : (a : Answer) (k v : ℕ) (d : List Float) → a ≡ covarianceAnswer xs rows n 4096 → a ≡ answer.Matrix k v → d ≡ covariances xs rows n 4096 → Estimated xs rows n false Done d
-  unfolding covarianceAnswer covariances shrunkIf estimated
-  plain-done a k v d e h f =
-      let o = answer-made _ _ _ k v (sym e ∙ h) .0 in
-      record { answer = sym o ∙ outcome-is; front = λ g. laid-front pz _ 4096 (n * n) _ d f o length-estimated }
+    answer-is : r ≡ orElse (ltb rows 2) NoData Done
+    unfolding orElse
+    answer-is = told-is ∙ covariance-sized xs rows n room ok ∙ rw (le-ltb room (n * n) (omega (arith, full, cells-fit (length xs) rows n ok)))
 
-  -- p is what was estimated, d what it shrank to
-  pub shrunk-refused : (r : Outcome) (k : Refusal) (p d : List Float) → Estimated xs rows n false r p → r ≡ Refused k → Estimated xs rows n true r d
-  shrunk-refused r k p d z h = record { answer = z .answer; front = λ g. absurd (done-refused k (sym g ∙ h)) }
+    front : (d : List Float) → d ≡ covariances xs rows n room → r ≡ Done → take (n * n) d ≡ estimated xs rows n
+    unfolding covariances estimated
+    front d f g = laid-front pz _ room (n * n) _ d f (sym told-is ∙ g) length-estimated
 
-  shrink-passes : (p : List Float) → length p ≡ n * n → shrinkOutcome p n n 4096 ≡ Done
-  unfolding shrinkOutcome
-  shrink-passes p l =
-      let m = cells-fit (length xs) rows n ok in
-      let w = sized-done (length xs) rows n ok .wide in
-      squared-sized (length p) n n 4096 (sizes-pass (length p) n n record { tall = omega arith; wide = w; small = m; cells = l })
-      ∙ table-pass _ _ _ (le-ltb 4096 (n * n) m)
-      ∙ table-pass _ _ _ (rw (eq-eqb n n refl))
-      ∙ table-end
+    pub estimated-plain : (b : Bool) (d : List Float) → b ≡ false → d ≡ covariances xs rows n room → HrpEstimated xs rows n b r d
+    unfolding shrunkIf
+    estimated-plain b d t f = rw t record { answer = answer-is; front = λ g. front d f g }
 
-  pub shrunk-done : (r : Outcome) (p d : List Float) → Estimated xs rows n false r p → r ≡ Done → d ≡ shrunk (take (n * n) p) n n 4096 → Estimated xs rows n true r d
-  unfolding shrunk shrunkIf
-  shrunk-done r p d z h f =
-      let e : take (n * n) p ≡ estimated xs rows n = z .front h in
-      record {
-        answer = z .answer;
-        front = λ g. laid-front pz _ 4096 (n * n) _ d (rw e at f) (shrink-passes (estimated xs rows n) length-estimated) (length-grid n n (shrunkCell (estimated xs rows n) n));
-      }
+    shrink-passes : (room₁ : ℕ) → room₁ ≡ 4096 → shrinkOutcome (estimated xs rows n) n n room₁ ≡ Done
+    unfolding shrinkOutcome
+    shrink-passes room₁ full₁ =
+        let m = cells-fit (length xs) rows n ok in
+        let w = sized-done (length xs) rows n ok .wide in
+        squared-sized (length (estimated xs rows n)) n n room₁ (sizes-pass (length (estimated xs rows n)) n n record { tall = omega (arith, w); wide = w; small = m; cells = length-estimated })
+        ∙ table-pass _ _ _ (le-ltb room₁ (n * n) (omega (arith, full₁, m)))
+        ∙ table-pass _ _ _ (rw (eq-eqb n n refl))
+        ∙ table-end
+
+    -- p is what was estimated, d what it shrank to
+    pub estimated-shrunk : (b : Bool) (p d : List Float) (room₁ : ℕ) → room₁ ≡ 4096 → b ≡ true → p ≡ covariances xs rows n room → d ≡ shrunk (take (n * n) p) n n room₁ → HrpEstimated xs rows n b r d
+    unfolding shrunk shrunkIf
+    estimated-shrunk b p d room₁ full₁ t f g =
+        rw t
+        record {
+          answer = answer-is;
+          front = λ q. laid-front pz _ room₁ (n * n) _ d (g ∙ ap (λ (x : List Float). shrunk x n n room₁) (front p f q)) (shrink-passes room₁ full₁) (length-grid n n (shrunkCell (estimated xs rows n) n));
+        }
 
 -- ---- of prices
 
-module _ (prices : List Float) (rows n s : ℕ) (ok : first (sizes (length prices) rows n) ≡ Done) where
+module _ (prices : List Float) (rows n s : ℕ) (ok : first (sizes (length prices) rows n) ≡ Done) (a : Answer) (e : a ≡ madeAnswer prices rows n s 4096) where
   made-is : madeOutcome prices rows n s 4096 ≡ orElse (noReturns prices rows n s) NoData Done
   made-is = made-judged prices rows n s 4096 (sized-done (length prices) rows n ok) (omega arith)
 
-  pub sampled-refused : (a : Answer) (k : Refusal) (shrink : Bool) (d : List Float) → a ≡ madeAnswer prices rows n s 4096 → a ≡ answer.Refused k → Sampled prices rows n s shrink (Refused NoData) d
-  sampled-refused a k shrink d e h =
+  pub sampled-refused : (k : Refusal) (shrink : Bool) (d : List Float) → a ≡ answer.Refused k → HrpSampled prices rows n s shrink (Refused k) d
+  sampled-refused k shrink d h =
       record {
-        answer = else-hit (noReturns prices rows n s) _ (hit _ k (sym made-is ∙ made-refusal prices rows n s 4096 a k e h));
-        front = λ g. absurd (done-refused NoData (sym g));
+        answer = hit (noReturns prices rows n s) k _ (sym made-is ∙ made-refusal prices rows n s 4096 a k e h);
+        front = λ g. absurd (done-refused k (sym g));
       }
 
   -- accepted: k rows of returns at the front of made
-  module _ (a : Answer) (k v : ℕ) (made : List Float) (e : a ≡ madeAnswer prices rows n s 4096) (h : a ≡ answer.Matrix k v) (f : made ≡ madeLaid prices rows n s 4096) where
+  module _ (k v : ℕ) (made : List Float) (h : a ≡ answer.Matrix k v) (f : made ≡ madeLaid prices rows n s 4096) where
     done : (madeOutcome prices rows n s 4096 ≡ Done) × (k ≡ keptRows rows s - 1)
     done = made-answer prices rows n s 4096 a k v e h
 
@@ -133,36 +126,55 @@ module _ (prices : List Float) (rows n s : ℕ) (ok : first (sizes (length price
     pub returns-pass : first (sizes (length (take (k * n) made)) k n) ≡ Done
     returns-pass = sizes-pass _ k n made-sized
 
-    pub sampled-done : (shrink : Bool) (r : Outcome) (d : List Float) → Estimated (take (k * n) made) k n shrink r d → Sampled prices rows n s shrink r d
+    pub sampled-done : (shrink : Bool) (r : Outcome) (d : List Float) → HrpEstimated (take (k * n) made) k n shrink r d → HrpSampled prices rows n s shrink r d
     sampled-done shrink r d z =
-        let z′ : Estimated (madeReturns prices rows n s) (keptRows rows s - 1) n shrink r d = rw (returns-are, done .1) at z in
+        let z′ : HrpEstimated (madeReturns prices rows n s) (keptRows rows s - 1) n shrink r d = rw (returns-are, done .1) at z in
         record {
           answer = z′ .answer ∙ else-pass (noReturns prices rows n s) _ (made-done prices rows n s 4096 (done .0) .clean);
           front = z′ .front;
         }
 
--- ---- of a call, by the shape of its returns
+-- ---- of a call
 
-module _ (n : ℕ) (p : List Float) (ps : Shape) (xs : List Float) (rs : Shape) (by : List ℕ) (shrink : Bool) where
-  pub from-returns : (rows w : ℕ) (r : Outcome) (d : List Float) → rs ≡ Of rows w → Estimated xs rows n shrink r d → Prepared (without n p ps xs rs by shrink Correlation) r d
-  unfolding absent returnRows returnCells covarianceOf usedCovariance orElse
-  from-returns rows w r d e z = rw e record { answer = z .answer; front = z .front }
+module _ (said : Outcome) (q : HrpSource) where
+  pub gathered-refused : (k : Refusal) (out : List Float) → said ≡ Refused k → HrpGathered said q said out
+  gathered-refused k out h = record { answer = h ∙ sym (then-refused _ _ k h); front = λ g. absurd (done-refused k (sym g ∙ h)) }
 
-  pub from-prices : (r : Outcome) (d : List Float) → rs ≡ Absent → Sampled p (rowsIn ps) n (stepOf by) shrink r d → Prepared (without n p ps xs rs by shrink Correlation) r d
-  unfolding absent returnRows returnCells covarianceOf usedCovariance
-  from-prices r d e z = rw e record { answer = z .answer; front = z .front }
+  module _ (d : said ≡ Done) where
+    pub gathered-given : (out : List Float) → absent (q .covariance-shape) ≡ false → HrpGathered said q said out
+    unfolding gatherOutcome andThen orElse
+    gathered-given out t = record { answer = rw (d, t, and-no (absent (q .returns-shape))); front = λ g w. absurd (let z : _≡_ {A = Bool} false true = sym t ∙ w in let y : _≡_ {A = ℕ} 0 1 = cc in omega arith) }
 
-  pub returns-sized : (rows w : ℕ) → rs ≡ Of rows w → first (sourceSizes (without n p ps xs rs by shrink Correlation) rs) ≡ Done → first (sizes (length xs) rows n) ≡ Done
-  unfolding sourceSizes
-  returns-sized rows w e h = rw e at h
+    module _ (t : absent (q .covariance-shape) ≡ true) where
+      pub gathered-returns : (rows w : ℕ) (r : Outcome) (out : List Float) → q .returns-shape ≡ Of rows w → HrpEstimated (q .returns) rows (q .assets) (q .use-shrinkage) r out → HrpGathered said q r out
+      unfolding gatherOutcome gatheredCovariance gatheredRows gatheredCells absent andThen orElse
+      gathered-returns rows w r out e z =
+          record {
+            answer = z .answer ∙ rw (d, t, e);
+            front = λ g w. z .front g ∙ rw e;
+          }
 
-  pub prices-sized : rs ≡ Absent → first (sourceSizes (without n p ps xs rs by shrink Correlation) rs) ≡ Done → first (sizes (length p) (rowsIn ps) n) ≡ Done
-  unfolding sourceSizes
-  prices-sized e h = rw e at h
+      pub gathered-prices : (r : Outcome) (out : List Float) → q .returns-shape ≡ Absent → HrpSampled (q .prices) (rowsOfShape (q .prices-shape)) (q .assets) (q .step) (q .use-shrinkage) r out → HrpGathered said q r out
+      unfolding gatherOutcome gatheredCovariance gatheredRows gatheredCells absent andThen orElse
+      gathered-prices r out e z =
+          record {
+            answer = z .answer ∙ rw (d, t, e);
+            front = λ g w. z .front g ∙ rw e;
+          }
 
--- the distance is not read here
-pub source-same : (n : ℕ) (p : List Float) (ps : Shape) (xs : List Float) (rs : Shape) (by : List ℕ) (shrink : Bool) (d : Distance)
-    → first (sourceSizes (without n p ps xs rs by shrink d) rs) ≡ Done → first (sourceSizes (without n p ps xs rs by shrink Correlation) rs) ≡ Done
-unfolding sourceSizes
-source-same n p ps xs Absent by shrink d e = e
-source-same n p ps xs (Of k w) by shrink d e = e
+      module _ (f : HrpFitting said q) where
+        pub returns-sized : (rows w : ℕ) → q .returns-shape ≡ Of rows w → first (sizes (length (q .returns)) rows (q .assets)) ≡ Done
+        unfolding gatherSizes
+        returns-sized rows w e = rw e at (f .sized d t)
+
+        pub prices-sized : q .returns-shape ≡ Absent → first (sizes (length (q .prices)) (rowsOfShape (q .prices-shape)) (q .assets)) ≡ Done
+        unfolding gatherSizes
+        prices-sized e = rw e at (f .sized d t)
+
+pub used-made : (t : Shape) (given made : List Float) → t ≡ Absent → made ≡ usedBy t given made
+unfolding usedBy
+used-made t given made e = rw e
+
+pub used-given : (t : Shape) (rows w : ℕ) (given made : List Float) → t ≡ Of rows w → given ≡ usedBy t given made
+unfolding usedBy
+used-given t rows w given made e = rw e

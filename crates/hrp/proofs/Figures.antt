@@ -24,14 +24,15 @@ use Rattle.stats.specs.Covariance.{meanOf, spread, covarianceOf as covarianceIn
 use Rattle.distances.specs.Distances.{clamped, distanceOf, distanceCell, offDiagonal, square, between, betweenCell}
 use Rattle.tree.specs.Tree.{grow, treeAt, leaves}
 use Rattle.tree.specs.Order.{seriatedCell}
-use Rattle.linkage.specs.Merge.{wardF, updateF, before, near, better, lesser, greater, offer, look, scanRow, scanFrom, scanAll, both, movable, moved, movedAll, merged, step, copied, numbered, start, stateAt, mergeRows}
+use Rattle.linkage.specs.Merge.{wardF, updateF, pairBefore, near, better, offer, look, scanRow, scanFrom, scanAll, both, movable, moved, movedAll, merged, step, copied, start, stateAt, mergeRows}
 use Rattle.linkage.specs.declared.Distance.the-variants.{Correlation}
-use Rattle.clusters.specs.Clusters.{recip, recipSum, shares, term, varianceOf, outside, anyLow as anyLowOf, riskTable, sizeTable, varianceOutcome, varianceAnswer}
+use Rattle.clusters.specs.Clusters.{recip, recipSum, shares, term, varianceOf, outside, anyListedLow as anyLowOf, riskTable, sizeTable, varianceOutcome, varianceAnswer}
 use Rattle.clusters.specs.Shares.{isNone, weightsIn}
-use Rattle.bisection.specs.Bisection.{factorOf, splitOf, halved, bisected, normal, weightsOf}
-use Rattle.parity.specs.Parity.{Room, roomFor, correlationsOf, distancesOf, treeDistances, rowsOf, orderOf, sharesOf, seriatedIn, roomLines, riskLines}
-use Rattle.inputs.specs.Inputs.{absent, rowsIn, otherColumns, otherSize, matrixLines, sampled, noReturns, madeReturns}
-use Rattle.hrp.specs.Hrp.{Job, job, pricesAlone, returnRows, returnCells, estimated, shrunkIf, covarianceOf, usedCovariance, shapeLines, numberLines, hrpTable, outcomeOf}
+use Rattle.bisection.specs.Bisection.{factorOf, sidesFactor, halved, bisected, normal, bisectionShares}
+use Rattle.arranging.specs.Arranging.{distancesIn, treeRows, treeOrder}
+use Rattle.parity.specs.Parity.{ParityRoom, correlationsOf, hrpDistances, treeDistances, hrpRows, hrpOrder, hrpShares, seriatedIn, parityRoomLines, hrpRiskLines}
+use Rattle.inputs.specs.Inputs.{absent, rowsOfShape, otherColumns, otherSize, matrixLines, sampled, noReturns, madeReturns}
+use Rattle.hrp.specs.Hrp.{HrpJob, pricesAlone, hrpReturnRows, hrpReturnCells, estimated, shrunkIf, hrpCovarianceBy, hrpCovariance, hrpShapeLines, numberLines, hrpTable, hrpOutcome}
 
 abbrev all : List Bool → Bool
 all [] = true
@@ -57,19 +58,19 @@ number outcome.Done = 0
 number (outcome.Refused r) = numberOf r
 
 -- buffers of just the sizes that n assets ask
-abbrev room : ℕ → Room
-room n = roomFor (2 * (n - 1)) n n (n * n) (n * n) 8192
+abbrev room : ℕ → ParityRoom
+room n = record { rows = 2 * (n - 1); order = n; weights = n; correlations = n * n; distances = n * n; scratch = 8192 }
 
 -- the number of a call, and the bits of its weights and seriated correlations
 abbrev told : Outcome → List Float → ℕ → List ℕ
-told o cov n = number o ∷ bits (laid pz o n (weightsIn (sharesOf Correlation cov n)) ++ laid pz o (n * n) (seriatedIn (orderOf Correlation cov n) (correlationsOf cov n) n))
+told o cov n = number o ∷ bits (laid pz o n (weightsIn (hrpShares Correlation cov n)) ++ laid pz o (n * n) (seriatedIn (hrpOrder Correlation cov n) (correlationsOf cov n) n))
 
-abbrev allocated : Job → List ℕ
-allocated j = told (outcomeOf j (room (j .assets))) (usedCovariance j) (j .assets)
+abbrev allocated : HrpJob → List ℕ
+allocated j = told (hrpOutcome j (room (j .assets))) (hrpCovariance j) (j .assets)
 
 -- the number alone
-abbrev refused : Job → Room → ℕ
-refused j r = number (outcomeOf j r)
+abbrev refused : HrpJob → ParityRoom → ℕ
+refused j r = number (hrpOutcome j r)
 
 -- ---- matrices
 
@@ -109,8 +110,19 @@ weekly =
     ∷ []
 
 -- n assets: prices, returns and covariance with their shapes, a sampling name, shrinkage
-abbrev given : ℕ → List ℕ → Shape → List ℕ → Shape → List ℕ → Shape → List ℕ → Bool → Job
-given n p ps r rs c cs by shrink = job n (doubles p) ps (doubles r) rs (doubles c) cs by shrink Correlation
+abbrev given : ℕ → List ℕ → Shape → List ℕ → Shape → List ℕ → Shape → List ℕ → Bool → HrpJob
+given n p ps r rs c cs by shrink = record {
+  assets = n;
+  prices = doubles p;
+  prices-shape = ps;
+  returns = doubles r;
+  returns-shape = rs;
+  covariance = doubles c;
+  covariance-shape = cs;
+  resample-by = by;
+  use-shrinkage = shrink;
+  distance = Correlation;
+}
 
 -- equal variances, and the correlations x
 abbrev equal : ℕ → List ℕ
@@ -141,11 +153,11 @@ refusals =
     ∷ eqb (refused (given 2 [] Absent (one ∷ two ∷ []) (Of 1 2) [] Absent [] false) (room 2)) 1
     -- the covariance's size; 11 before every 1, 10 before 11, 9 before 10
     ∷ eqb (refused (given 2 [] Absent [] Absent (one ∷ two ∷ []) (Of 1 2) [] false) (room 2)) 3
-    ∷ eqb (refused (given 2 [] Absent [] Absent [] Absent [] false) (roomFor 2 2 2 4 4 8191)) 11
+    ∷ eqb (refused (given 2 [] Absent [] Absent [] Absent [] false) (record { rows = 2; order = 2; weights = 2; correlations = 4; distances = 4; scratch = 8191 })) 11
     ∷ eqb (refused (given 2 [] (Of 1 2) [] Absent [] Absent [] false) (room 1)) 10
     ∷ eqb (refused (given 65 [] (Of 1 2) [] Absent [] Absent [] false) (room 1)) 9
     ∷ []
 
 pub figures : all done && all refusals ≡ true
-unfolding outcomeOf hrpTable matrixLines shapeLines numberLines pricesAlone usedCovariance covarianceOf shrunkIf estimated returnCells returnRows absent rowsIn otherColumns otherSize sampled noReturns madeReturns isWeekly isMonthly stepOf keepsAll keptRows keptRow sampledCell returnCell zeroMet lower sameBytes isWord meanOf spread covarianceIn covarianceCell shrunkCell countOf ofInt tooBig misfits correlationsOf distancesOf treeDistances rowsOf orderOf sharesOf seriatedIn roomLines riskLines first laid overLimit otherLength sizes tab grid sumTo sumOn sumRows anyTo range span isNone weightsIn factorOf splitOf halved bisected normal weightsOf recip recipSum shares term varianceOf outside anyLowOf riskTable sizeTable varianceOutcome varianceAnswer correlationCell anyLow clamped distanceOf distanceCell offDiagonal square between betweenCell wardF updateF before near better lesser greater offer look scanRow scanFrom scanAll both movable moved movedAll merged step copied numbered start stateAt mergeRows grow treeAt leaves seriatedCell minOf maxOf absOf clampOf root isqrt lt le eq isNan neg add sum sub mul div round units odd trailingZeros size ieee-span climb ofFields ofBits toBits
+unfolding distancesIn treeRows treeOrder hrpOutcome hrpTable matrixLines hrpShapeLines numberLines pricesAlone hrpCovariance hrpCovarianceBy shrunkIf estimated hrpReturnCells hrpReturnRows absent rowsOfShape otherColumns otherSize sampled noReturns madeReturns isWeekly isMonthly stepOf keepsAll keptRows keptRow sampledCell returnCell zeroMet lower sameBytes isWord meanOf spread covarianceIn covarianceCell shrunkCell countOf ofInt tooBig misfits correlationsOf hrpDistances treeDistances hrpRows hrpOrder hrpShares seriatedIn parityRoomLines hrpRiskLines first laid overLimit otherLength sizes tab grid sumTo sumOn sumRows anyTo range span isNone weightsIn factorOf sidesFactor halved bisected normal bisectionShares recip recipSum shares term varianceOf outside anyLowOf riskTable sizeTable varianceOutcome varianceAnswer correlationCell anyLow clamped distanceOf distanceCell offDiagonal square between betweenCell wardF updateF pairBefore near better offer look scanRow scanFrom scanAll both movable moved movedAll merged step copied start stateAt mergeRows grow treeAt leaves seriatedCell minOf maxOf absOf clampOf root isqrt lt le eq isNan neg add sum sub mul div round units odd trailingZeros size ieee-span climb ofFields ofBits toBits
 figures = refl

@@ -2,8 +2,8 @@
 use Prim.Native.Nat.{ℕ, _-_}
 use mathlib.Core.Path.{_≡_}
 use mathlib.Core.Bool.{Bool, true, false, _&&_}
-use mathlib.Core.List.{List, [], _∷_, _++_}
-use lib.Dec.{ltb, eqb}
+use mathlib.Core.List.{List, _∷_, _++_}
+use lib.Dec.{ltb}
 use lib.ListN.{length}
 use lib.Ieee.{Float}
 use Rattle.refusal.specs.Table.{Line, first}
@@ -13,14 +13,15 @@ use Rattle.lent.specs.Grid.{grid}
 use Rattle.lent.specs.declared.Shape.{Shape}
 use Rattle.lent.specs.declared.Shape.the-variants.{Absent, Of}
 use Rattle.resample.specs.Resample.{stepOf, keptRows}
-use Rattle.inputs.specs.Inputs.{absent, rowsIn, otherColumns, otherSize, matrixLines, noReturns, madeReturns}
+use Rattle.inputs.specs.Inputs.{absent, rowsOfShape, otherSize, matrixLines, noReturns, madeReturns}
 use Rattle.stats.specs.Covariance.{covarianceCell, shrunkCell}
 use Rattle.linkage.specs.declared.Distance.{Distance}
-use Rattle.parity.specs.Parity.{Room, roomLines, riskLines, Laid}
+use Rattle.rooms.specs.Rooms.{ParityRoom, parityRoomLines, shapeLines}
+use Rattle.parity.specs.Parity.{hrpRiskLines, ParityLaid}
 
 -- ---- the call
 
-pub record Job : Type 0 where
+pub record HrpJob : Type 0 where
   pub assets : ℕ
   pub prices : List Float
   pub prices-shape : Shape
@@ -35,17 +36,17 @@ pub record Job : Type 0 where
 -- ---- the covariance
 
 -- prices are looked at "only without covariance", and without returns
-unfoldable pub pricesAlone : Job → Bool
+unfoldable pub pricesAlone : HrpJob → Bool
 pricesAlone j = absent (j .returns-shape) && absent (j .covariance-shape)
 
 -- the returns: the given ones, else those made from prices; by the shape of the given ones
-unfoldable pub returnRows : Job → Shape → ℕ
-returnRows j (Of rows w) = rows
-returnRows j Absent = keptRows (rowsIn (j .prices-shape)) (stepOf (j .resample-by)) - 1
+unfoldable pub hrpReturnRows : HrpJob → Shape → ℕ
+hrpReturnRows j (Of rows w) = rows
+hrpReturnRows j Absent = keptRows (rowsOfShape (j .prices-shape)) (stepOf (j .resample-by)) - 1
 
-unfoldable pub returnCells : Job → Shape → List Float
-returnCells j (Of rows w) = j .returns
-returnCells j Absent = madeReturns (j .prices) (rowsIn (j .prices-shape)) (j .assets) (stepOf (j .resample-by))
+unfoldable pub hrpReturnCells : HrpJob → Shape → List Float
+hrpReturnCells j (Of rows w) = j .returns
+hrpReturnCells j Absent = madeReturns (j .prices) (rowsOfShape (j .prices-shape)) (j .assets) (stepOf (j .resample-by))
 
 unfoldable pub estimated : List Float → ℕ → ℕ → List Float
 estimated xs rows n = grid n n (covarianceCell xs rows n)
@@ -56,55 +57,50 @@ shrunkIf true cov n = grid n n (shrunkCell cov n)
 shrunkIf false cov n = cov
 
 -- the given covariance, else that of the returns; by the shape of the given one
-unfoldable pub covarianceOf : Job → Shape → List Float
-unfolding returnRows returnCells estimated shrunkIf
-covarianceOf j (Of rows w) = j .covariance
-covarianceOf j Absent =
-    shrunkIf (j .use-shrinkage) (estimated (returnCells j (j .returns-shape)) (returnRows j (j .returns-shape)) (j .assets)) (j .assets)
+unfoldable pub hrpCovarianceBy : HrpJob → Shape → List Float
+unfolding hrpReturnRows hrpReturnCells estimated shrunkIf
+hrpCovarianceBy j (Of rows w) = j .covariance
+hrpCovarianceBy j Absent =
+    shrunkIf (j .use-shrinkage) (estimated (hrpReturnCells j (j .returns-shape)) (hrpReturnRows j (j .returns-shape)) (j .assets)) (j .assets)
 
-unfoldable pub usedCovariance : Job → List Float
-unfolding covarianceOf
-usedCovariance j = covarianceOf j (j .covariance-shape)
+unfoldable pub hrpCovariance : HrpJob → List Float
+unfolding hrpCovarianceBy
+hrpCovariance j = hrpCovarianceBy j (j .covariance-shape)
 
 -- ---- refusals
 
 -- "no matrix 1; no assets 1; given returns' columns 3; else, only without covariance, prices' columns 3"
-unfoldable pub shapeLines : Job → List Line
-unfolding pricesAlone
-shapeLines j =
-    (absent (j .prices-shape) && pricesAlone j, NoData)
-    ∷ (eqb (j .assets) 0, NoData)
-    ∷ (otherColumns (j .returns-shape) (j .assets), DimensionMismatch)
-    ∷ (pricesAlone j && otherColumns (j .prices-shape) (j .assets), DimensionMismatch)
-    ∷ []
+unfoldable pub hrpShapeLines : HrpJob → List Line
+hrpShapeLines j = shapeLines (j .assets) (j .prices-shape) (j .returns-shape) (j .covariance-shape)
 
 -- "and then the price rules; under 2 return rows without covariance 1; covariance size 3; variance 1; side 1."
-unfoldable pub numberLines : Job → List Line
-unfolding pricesAlone returnRows usedCovariance
+unfoldable pub numberLines : HrpJob → List Line
+unfolding pricesAlone hrpReturnRows hrpCovariance
 numberLines j =
-    (pricesAlone j && noReturns (j .prices) (rowsIn (j .prices-shape)) (j .assets) (stepOf (j .resample-by)), NoData)
-    ∷ (absent (j .covariance-shape) && ltb (returnRows j (j .returns-shape)) 2, NoData)
+    (pricesAlone j && noReturns (j .prices) (rowsOfShape (j .prices-shape)) (j .assets) (stepOf (j .resample-by)), NoData)
+    ∷ (absent (j .covariance-shape) && ltb (hrpReturnRows j (j .returns-shape)) 2, NoData)
     ∷ (otherSize (j .covariance-shape) (j .assets), DimensionMismatch)
-    ∷ riskLines (j .distance) (usedCovariance j) (j .assets)
+    ∷ hrpRiskLines (j .distance) (hrpCovariance j) (j .assets)
 
-unfoldable pub hrpTable : Job → Room → List Line
-unfolding shapeLines numberLines
+unfoldable pub hrpTable : HrpJob → ParityRoom → List Line
+unfolding hrpShapeLines numberLines
 hrpTable j room =
     matrixLines (j .assets) (j .prices-shape) (length (j .prices)) (j .returns-shape) (length (j .returns)) (j .covariance-shape) (length (j .covariance))
-    ++ (roomLines (j .assets) room ++ (shapeLines j ++ numberLines j))
+    ++ (parityRoomLines (j .assets) room ++ (hrpShapeLines j ++ numberLines j))
 
-unfoldable pub outcomeOf : Job → Room → Outcome
+unfoldable pub hrpOutcome : HrpJob → ParityRoom → Outcome
 unfolding hrpTable
-outcomeOf j room = first (hrpTable j room)
+hrpOutcome j room = first (hrpTable j room)
 
--- ---- the answer, and every lent buffer: `Laid` of the crate parity says what an outcome leaves in each
+-- ---- the answer, and every lent buffer: `ParityLaid` of the crate parity says what an outcome leaves in each
 
-pub record Allocated (j : Job) (room : Room) (r : Outcome) (rows order : List ℕ) (weights correlations distances scratch : List Float) : Type 0 where
-  pub answer : r ≡ outcomeOf j room
-  pub buffers : Laid (outcomeOf j room) (j .distance) (usedCovariance j) (j .assets) room rows order weights correlations distances scratch
+pub record HrpAllocated (j : HrpJob) (room : ParityRoom) (r : Outcome) (rows order : List ℕ) (weights correlations distances scratch : List Float) : Type 0 where
+  pub answer : r ≡ hrpOutcome j room
+  pub buffers : ParityLaid (hrpOutcome j room) (j .distance) (hrpCovariance j) (j .assets) room rows order weights correlations distances scratch
 
-abbrev pub job : ℕ → List Float → Shape → List Float → Shape → List Float → Shape → List ℕ → Bool → Distance → Job
-job n p ps r rs c cs by shrink d = record {
+-- the same, by places
+abbrev pub hrpJob : ℕ → List Float → Shape → List Float → Shape → List Float → Shape → List ℕ → Bool → Distance → HrpJob
+hrpJob n p ps r rs c cs by shrink d = record {
   assets = n;
   prices = p;
   prices-shape = ps;

@@ -1,2 +1,2 @@
 pub mod Hrp
-pub mod Steps
+pub mod Inner

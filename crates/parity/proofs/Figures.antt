@@ -7,7 +7,7 @@ use lib.Count.{trailingZeros}
 use lib.Dec.{eqb}
 use lib.Ieee.{Float, binary64, size, span as ieee-span, climb, odd, units, round, neg, add, sum, sub, mul, div, lt, le, eq, isNan, ofFields, ofBits, toBits}
 use Rattle.arithmetic.specs.Constants.{pz}
-use Rattle.arithmetic.specs.Arithmetic.{minOf, maxOf, absOf, clampOf}
+use Rattle.arithmetic.specs.Arithmetic.{minOf, maxOf, absOf, clampOf, countOf}
 use Rattle.arithmetic.specs.Root.{isqrt, root}
 use Rattle.refusal.specs.Refusal.{numberOf}
 use Rattle.refusal.specs.Table.{first}
@@ -20,13 +20,14 @@ use Rattle.stats.specs.Covariance.{correlationCell, anyLow}
 use Rattle.distances.specs.Distances.{clamped, distanceOf, distanceCell, offDiagonal, square, between, betweenCell}
 use Rattle.tree.specs.Tree.{grow, treeAt, leaves}
 use Rattle.tree.specs.Order.{seriatedCell}
-use Rattle.linkage.specs.Merge.{wardF, updateF, before, near, better, lesser, greater, offer, look, scanRow, scanFrom, scanAll, both, movable, moved, movedAll, merged, step, copied, numbered, start, stateAt, mergeRows}
+use Rattle.linkage.specs.Merge.{wardF, updateF, pairBefore, near, better, offer, look, scanRow, scanFrom, scanAll, both, movable, moved, movedAll, merged, step, copied, start, stateAt, mergeRows}
 use Rattle.linkage.specs.declared.Distance.{Distance}
 use Rattle.linkage.specs.declared.Distance.the-variants.{Correlation, DistanceOfDistances}
-use Rattle.clusters.specs.Clusters.{recip, recipSum, shares, term, varianceOf, outside, anyLow as anyLowOf, riskTable, sizeTable, varianceOutcome, varianceAnswer}
+use Rattle.arranging.specs.Arranging.{distancesIn, treeRows, treeOrder}
+use Rattle.clusters.specs.Clusters.{recip, recipSum, shares, term, varianceOf, outside, anyListedLow as anyLowOf, riskTable, sizeTable, varianceOutcome, varianceAnswer}
 use Rattle.clusters.specs.Shares.{isNone, weightsIn}
-use Rattle.bisection.specs.Bisection.{factorOf, splitOf, halved, bisected, normal, weightsOf}
-use Rattle.parity.specs.Parity.{Room, roomFor, correlationsOf, distancesOf, treeDistances, rowsOf, orderOf, sharesOf, seriatedIn, roomLines, riskLines, parityTable, parityOutcome}
+use Rattle.bisection.specs.Bisection.{factorOf, sidesFactor, halved, bisected, normal, bisectionShares}
+use Rattle.parity.specs.Parity.{ParityRoom, correlationsOf, hrpDistances, treeDistances, hrpRows, hrpOrder, hrpShares, seriatedIn, parityRoomLines, parityJudgeTable, hrpRiskLines, parityTable, parityOutcome}
 
 abbrev all : List Bool → Bool
 all [] = true
@@ -52,16 +53,16 @@ number outcome.Done = 0
 number (outcome.Refused r) = numberOf r
 
 -- the number of n assets in buffers of just the sizes asked, and the bits of the weights
-abbrev room : ℕ → Room
-room n = roomFor (2 * (n - 1)) n n (n * n) (n * n) 8192
+abbrev room : ℕ → ParityRoom
+room n = record { rows = 2 * (n - 1); order = n; weights = n; correlations = n * n; distances = n * n; scratch = 8192 }
 
 abbrev told : Outcome → Distance → List Float → ℕ → List ℕ
-told o d cov n = number o ∷ bits (laid pz o n (weightsIn (sharesOf d cov n)))
+told o d cov n = number o ∷ bits (laid pz o n (weightsIn (hrpShares d cov n)))
 
 abbrev weights : Distance → List ℕ → ℕ → List ℕ
 weights d cov n = told (parityOutcome d (doubles cov) n n (room n)) d (doubles cov) n
 
-abbrev refused : List ℕ → ℕ → ℕ → Room → ℕ
+abbrev refused : List ℕ → ℕ → ℕ → ParityRoom → ℕ
 refused cov rows w r = number (parityOutcome Correlation (doubles cov) rows w r)
 
 abbrev p0 : ℕ
@@ -103,10 +104,10 @@ cov3 = doubles (one ∷ p0 ∷ p0 ∷ p0 ∷ one ∷ one ∷ p0 ∷ one ∷ one 
 
 abbrev others : List Bool
 others =
-    same (rowsOf DistanceOfDistances cov3 3) (1 ∷ 2 ∷ 0 ∷ 3 ∷ [])
-    ∷ same (orderOf DistanceOfDistances cov3 3) (0 ∷ 1 ∷ 2 ∷ [])
+    same (hrpRows DistanceOfDistances cov3 3) (1 ∷ 2 ∷ 0 ∷ 3 ∷ [])
+    ∷ same (hrpOrder DistanceOfDistances cov3 3) (0 ∷ 1 ∷ 2 ∷ [])
     ∷ same (bits (seriatedIn (2 ∷ 0 ∷ 1 ∷ []) (correlationsOf cov3 3) 3)) (one ∷ p0 ∷ one ∷ p0 ∷ one ∷ p0 ∷ one ∷ p0 ∷ one ∷ [])
-    ∷ same (bits (seriatedIn (2 ∷ 0 ∷ 1 ∷ []) (distancesOf cov3 3) 3)) (p0 ∷ apart ∷ p0 ∷ apart ∷ p0 ∷ apart ∷ p0 ∷ apart ∷ p0 ∷ [])
+    ∷ same (bits (seriatedIn (2 ∷ 0 ∷ 1 ∷ []) (hrpDistances cov3 3) 3)) (p0 ∷ apart ∷ p0 ∷ apart ∷ p0 ∷ apart ∷ p0 ∷ apart ∷ p0 ∷ [])
     ∷ []
 
 abbrev refusals : List Bool
@@ -115,11 +116,11 @@ refusals =
     eqb (refused (diagonal p0 one) 2 2 (room 2)) 1
     ∷ eqb (refused [] 2 0 (room 0)) 1
     ∷ eqb (refused (one ∷ one ∷ []) 1 2 (room 2)) 3
-    ∷ eqb (refused (one ∷ one ∷ []) 1 2 (roomFor 2 2 2 4 3 8192)) 11
-    ∷ eqb (refused [] 2 0 (roomFor 0 0 0 0 0 8191)) 11
+    ∷ eqb (refused (one ∷ one ∷ []) 1 2 (record { rows = 2; order = 2; weights = 2; correlations = 4; distances = 3; scratch = 8192 })) 11
+    ∷ eqb (refused [] 2 0 (record { rows = 0; order = 0; weights = 0; correlations = 0; distances = 0; scratch = 8191 })) 11
     ∷ eqb (refused (one ∷ []) 1 2 (room 1)) 10
     ∷ []
 
 pub figures : all (of-scope Correlation) && all (of-scope DistanceOfDistances) && all others && all refusals ≡ true
-unfolding correlationsOf distancesOf treeDistances rowsOf orderOf sharesOf seriatedIn roomLines riskLines parityTable parityOutcome first laid overLimit otherLength sizes tab grid sumTo sumOn sumRows anyTo range span isNone weightsIn factorOf splitOf halved bisected normal weightsOf recip recipSum shares term varianceOf outside anyLowOf riskTable sizeTable varianceOutcome varianceAnswer correlationCell anyLow clamped distanceOf distanceCell offDiagonal square between betweenCell wardF updateF before near better lesser greater offer look scanRow scanFrom scanAll both movable moved movedAll merged step copied numbered start stateAt mergeRows grow treeAt leaves seriatedCell minOf maxOf absOf clampOf root isqrt lt le eq isNan neg add sum sub mul div round units odd trailingZeros size ieee-span climb ofFields ofBits toBits
+unfolding distancesIn treeRows treeOrder correlationsOf hrpDistances treeDistances hrpRows hrpOrder hrpShares seriatedIn parityRoomLines parityJudgeTable hrpRiskLines parityTable parityOutcome first laid overLimit otherLength sizes tab grid sumTo sumOn sumRows anyTo range span isNone weightsIn factorOf sidesFactor halved bisected normal bisectionShares recip recipSum shares term varianceOf outside anyLowOf riskTable sizeTable varianceOutcome varianceAnswer correlationCell anyLow clamped distanceOf distanceCell offDiagonal square between betweenCell wardF updateF pairBefore near better offer look scanRow scanFrom scanAll both movable moved movedAll merged step copied start stateAt mergeRows grow treeAt leaves seriatedCell minOf maxOf absOf clampOf root isqrt lt le eq isNan neg add sum sub mul div round units odd trailingZeros size ieee-span climb ofFields ofBits toBits
 figures = refl

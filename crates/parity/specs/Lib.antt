@@ -1,2 +1,2 @@
 pub mod Parity
-pub mod Steps
+pub mod Inner

@@ -1,100 +1,159 @@
 -- `parity::work` meets its contract. Assumes nothing.
-use mathlib.Core.Path.{_∙_}
-use Rattle.parity.proofs.Laws.{low-said, correlations-exact}
-use Rattle.parity.proofs.Answers.{made-low, made, arranged-order}
+use mathlib.Core.Path.{sym, _∙_}
+use native.Mathlib.Omega.{arith}
+use borrow.Author.Needs.{needs}
+use lib.Seq.{length-take-le}
+use Rattle.lent.proofs.Laws.{square-in}
+use Rattle.parity.proofs.Laws.{length-alike, low-said, correlations-front}
+use Rattle.parity.proofs.Answers.{worked-refused, worked-low, worked-done}
 use Rattle.parity.proofs.work.Statement.{statement}
 use Rattle.parity.proofs.work.Tie as tie
 
-cov2corr-requires : tie.Need-cov2corr-requires
-cov2corr-requires c κs = tt
-
-told-requires : tie.Need-told-requires
-told-requires c κs = tt
-
 enum-told : tie.Need-enum-told
-enum-told c = c .match .keys1
+enum-told c = search needs
 
 enum-told-2 : tie.Need-enum-told-2
-enum-told-2 c = c .match .keys2
-
-same-length : tie.Need-same-length
-same-length c = c .before .before .before .before .before .cov2corr .kept .1 .1 .1 .0
+enum-told-2 c = search needs
 
 returns : tie.Need-returns
 returns c =
-    let s = c .before .before .before .before .before .before .before .before .before .before .before .before .before .before in
-    let a = s .args in
-    let p = s .pre in
-    made-low (a .distance) (a .cov .now) (a .n) _ _ _ _ _ _ _ (low-said (a .n) (p .assets) (a .cov .now) _ _ _ (p .cells) (p .for-scratch) (c .before .before .before .before .before .cov2corr .ensures .0) (c .before .before .told .ensures)) (c .enum-told2 .given .1)
+    let a = c .before .before .before .before .before .before .before .before .before .args in
+    worked-refused (a .distance) (a .covariance .now) (a .n) _ _ _ _ _ _ _ _ _ (c .enum-told2 .given .1)
 
-arrange-requires : tie.Need-arrange-requires
-arrange-requires c κs =
-    let p = c .before .before .before .before .before .before .before .before .before .before .before .before .before .before .before .before .before .before .before .pre in
-    (p .assets, (c .before .before .before .before .before .before .before .before .before .before .cov2corr .kept .1 .1 .1 .0 ∙ p .for-scratch, (p .for-rows, (p .for-order, (p .for-distances, p .for-correlations)))))
+slice-aggregate-cov2corr : tie.Need-slice-aggregate-cov2corr
+slice-aggregate-cov2corr c = search needs
 
-show-requires : tie.Need-show-requires
-show-requires c κs =
-    let s = c .before .before .before .before .before .before .before .before .before .before .before .before .before .before .before .before .before .before .before .before .before .before .before .before .before .before .before .before .before .before .before .before in
-    let p = s .pre in
-    record {
-      wide = p .assets .wide;
-      each = arranged-order (s .args .distance) _ (s .args .n) _ _ _ (p .assets) (c .before .before .before .before .before .before .before .before .before .before .before .before .arrange .ensures);
-      for-correlations = c .before .before .before .before .before .before .before .before .before .before .before .before .arrange .kept .1 .1 .1 .1 .1 .1 .0 ∙ p .for-correlations;
-      for-distances = c .before .before .before .before .before .before .before .before .before .before .before .before .arrange .kept .1 .1 .1 .1 .1 .0 ∙ p .for-distances;
-      for-scratch = c .before .before .before .before .before .before .before .before .before .before .before .before .before .before .before .before .before .before .before .before .before .before .before .cov2corr .kept .1 .1 .1 .0 ∙ p .for-scratch;
-    }
+cov2corr-requires : tie.Need-cov2corr-requires
+cov2corr-requires c κs = search needs
 
-share-requires : tie.Need-share-requires
-share-requires c κs =
-    let s = c .before .before .before .before .before .before .before .before .before .before .before .before .before .before .before .before .before .before .before .before .before .before .before .before .before .before .before .before .before .before .before .before .before .before .before .before .before .before .before .before .before in
-    let p = s .pre in
-    (p .assets, (p .cells, (arranged-order (s .args .distance) _ (s .args .n) _ _ _ (p .assets) (c .before .before .before .before .before .before .before .before .before .before .before .before .before .before .before .before .before .before .before .before .before .arrange .ensures), p .for-weights)))
+told-requires : tie.Need-told-requires
+told-requires c κs = search needs
 
-same-length-2 : tie.Need-same-length-2
-same-length-2 c = c .before .before .before .before .before .before .before .before .before .before .before .before .before .before .before .before .before .before .before .before .before .before .before .before .arrange .kept .1 .1 .1 .0
+enum-told-3 : tie.Need-enum-told-3
+enum-told-3 c = search needs
 
-same-length-3 : tie.Need-same-length-3
-same-length-3 c = c .before .before .before .before .before .before .before .before .before .before .before .before .before .before .before .before .before .before .before .before .before .before .before .before .arrange .kept .1 .1 .1 .1 .0
-
-same-length-4 : tie.Need-same-length-4
-same-length-4 c = c .before .before .share .kept .1 .1 .1 .0
-
-same-length-5 : tie.Need-same-length-5
-same-length-5 c = c .before .before .before .before .before .before .before .before .before .before .before .show .kept .1 .1 .0 ∙ c .before .before .before .before .before .before .before .before .before .before .before .before .before .before .before .before .before .before .before .before .before .before .before .before .arrange .kept .1 .1 .1 .1 .1 .1 .0
-
-same-length-6 : tie.Need-same-length-6
-same-length-6 c = c .before .before .before .before .before .before .before .before .before .before .before .show .kept .1 .1 .1 .0 ∙ c .before .before .before .before .before .before .before .before .before .before .before .before .before .before .before .before .before .before .before .before .before .before .before .before .arrange .kept .1 .1 .1 .1 .1 .0
-
-same-length-7 : tie.Need-same-length-7
-same-length-7 c = c .before .before .before .before .before .before .before .before .before .before .before .show .kept .1 .1 .1 .1 .0 ∙ c .before .before .before .before .before .before .before .before .before .before .before .before .before .before .before .before .before .before .before .before .before .before .before .before .before .before .before .before .before .before .before .before .before .before .before .cov2corr .kept .1 .1 .1 .0
+enum-told-4 : tie.Need-enum-told-4
+enum-told-4 c = search needs
 
 returns-2 : tie.Need-returns-2
 returns-2 c =
-    let s = c .before .before .before .before .before .before .before .before .before .before .before .before .before .before .before .before .before .before .before .before .before .before .before .before .before .before .before .before .before .before .before .before .before .before .before .before .before .before .before .before .before .before .before .before in
+    let s = c .before .before .before .before .before .before .before .before .before .before .before .before .before .before .before in
     let a = s .args in
-    let p = s .pre in
-    let e = low-said (a .n) (p .assets) (a .cov .now) _ _ _ (p .cells) (p .for-scratch) (c .before .before .before .before .before .before .before .before .before .before .before .before .before .before .before .before .before .before .before .before .before .before .before .before .before .before .before .before .before .before .before .before .before .before .before .cov2corr .ensures .0) (c .before .before .before .before .before .before .before .before .before .before .before .before .before .before .before .before .before .before .before .before .before .before .before .before .before .before .before .before .before .before .before .before .told .ensures) in
-    let d = c .before .before .before .before .before .before .before .before .before .before .before .before .before .before .before .before .before .before .before .before .before .before .before .before .before .before .before .before .before .before .enum-told .given .1 in
-    let q = correlations-exact (a .n) (p .assets) (a .cov .now) _ _ _ _ (p .for-scratch) (c .before .before .before .before .before .before .before .before .before .before .before .before .before .before .before .before .before .before .before .before .before .before .before .before .before .before .before .before .before .before .before .before .before .before .before .cov2corr .ensures .0) (c .before .before .before .before .before .before .before .before .before .before .before .before .before .before .before .before .before .before .before .before .before .before .before .before .before .before .before .before .before .before .before .before .told .ensures) d (c .before .before .before .before .before .before .before .before .before .before .before .before .before .before .before .before .before .before .before .before .before .before .before .before .before .before .before .before .before .before .before .before .before .before .before .cov2corr .ensures .1) in
-    made (a .distance) (a .cov .now) (a .n) _ _ _ _ _ _ _ _ _ e d q (c .before .before .before .before .before .before .before .before .before .before .before .before .before .before .before .before .before .before .before .before .before .before .before .before .arrange .ensures) (c .before .before .before .before .before .before .before .before .before .before .before .show .ensures .0) (c .before .before .before .before .before .before .before .before .before .before .before .show .ensures .1) (c .before .before .share .ensures .0) (c .before .before .share .ensures .1)
+    let p = s .pre .sized (c .before .before .before .before .before .before .enum-told .given .1) in
+    worked-low (a .distance) (a .covariance .now) (a .n) _ _ _ _ _ _ _ _ _ _ (c .before .before .before .before .before .before .enum-told .given .1) (low-said (a .n) (p .some) (p .few) (a .covariance .now) (p .cells) _ (square-in _ (p .few)) _ _ (c .before .before .before .before .cov2corr .ensures .0) (c .before .before .told .ensures)) (c .enum-told4 .given .1)
+
+mul-m : tie.Need-mul-m
+mul-m c =
+    let s = c .before .before .before .before .before .before .before .before .before .before .before .before .before .before .before in
+    let a = s .args in
+    let p = s .pre .sized (c .before .before .before .before .before .before .enum-told .given .1) in
+    omega (arith, square-in _ (p .few))
+
+array-share-prefix-corr : tie.Need-array-share-prefix-corr
+array-share-prefix-corr c =
+    let s = c .before .before .before .before .before .before .before .before .before .before .before .before .before .before .before in
+    let a = s .args in
+    let p = s .pre .sized (c .before .before .before .before .before .before .enum-told .given .1) in
+    omega (arith, square-in _ (p .few), c .before .before .before .before .cov2corr .kept .1 .1 .1 .0)
+
+slice-aggregate-alike : tie.Need-slice-aggregate-alike
+slice-aggregate-alike c = sym (length-take-le _ _ (array-share-prefix-corr (c .before)))
+
+arrange-requires : tie.Need-arrange-requires
+arrange-requires c κs = search needs
+
+slice-reshare-prefix-leaves : tie.Need-slice-reshare-prefix-leaves
+slice-reshare-prefix-leaves c =
+    let s = c .before .before .before .before .before .before .before .before .before .before .before .before .before .before .before .before .before .before .before .before .before .before .before .before .before .before in
+    let a = s .args in
+    let p = s .pre .sized (c .before .before .before .before .before .before .before .before .before .before .before .before .before .before .before .before .before .enum-told .given .1) in
+    omega (arith, p .for-order, c .before .before .before .before .before .before .arrange .kept .1 .1 .1 .1 .1 .1 .1 .0)
+
+slice-aggregate-leaves : tie.Need-slice-aggregate-leaves
+slice-aggregate-leaves c = sym (length-take-le _ _ (slice-reshare-prefix-leaves (c .before)))
+
+slice-reshare-prefix-far : tie.Need-slice-reshare-prefix-far
+slice-reshare-prefix-far c =
+    let s = c .before .before .before .before .before .before .before .before .before .before .before .before .before .before .before .before .before .before .before .before .before .before .before .before .before .before .before in
+    let a = s .args in
+    let p = s .pre .sized (c .before .before .before .before .before .before .before .before .before .before .before .before .before .before .before .before .before .before .enum-told .given .1) in
+    omega (arith, square-in _ (p .few), p .for-scratch, c .before .before .before .before .before .before .before .arrange .kept .1 .1 .1 .1 .1 .1 .1 .1 .0)
+
+slice-aggregate-far : tie.Need-slice-aggregate-far
+slice-aggregate-far c = sym (length-take-le _ _ (slice-reshare-prefix-far (c .before)))
+
+seriate-matrix-requires : tie.Need-seriate-matrix-requires
+seriate-matrix-requires c κs = search needs
+
+seriate-matrix-requires-2 : tie.Need-seriate-matrix-requires-2
+seriate-matrix-requires-2 c κs = search needs
+
+clear-requires : tie.Need-clear-requires
+clear-requires c κs = search needs
+
+recursive-bisection-min-var-requires : tie.Need-recursive-bisection-min-var-requires
+recursive-bisection-min-var-requires c κs = search needs
+
+told-requires-2 : tie.Need-told-requires-2
+told-requires-2 c κs = search needs
+
+same-length : tie.Need-same-length
+same-length c = c .before .before .before .before .before .before .before .before .before .before .before .before .before .before .before .before .before .before .before .before .before .before .before .before .before .arrange .kept .1 .1 .1 .1 .1 .1 .0
+
+same-length-2 : tie.Need-same-length-2
+same-length-2 c = c .before .before .before .before .before .before .before .before .before .before .before .before .before .before .before .before .before .before .before .before .before .before .before .before .before .arrange .kept .1 .1 .1 .1 .1 .1 .1 .0
+
+same-length-3 : tie.Need-same-length-3
+same-length-3 c = c .before .before .before .recursive-bisection-min-var .kept .1 .1 .1 .1 .0
+
+same-length-4 : tie.Need-same-length-4
+same-length-4 c = c .before .before .before .before .before .before .before .before .before .before .before .before .before .before .before .seriate-matrix .kept .1 .1 .1 .1 .0
+
+same-length-5 : tie.Need-same-length-5
+same-length-5 c = c .before .before .before .before .before .before .before .before .before .before .before .seriate-matrix2 .kept .1 .1 .1 .1 .0
+
+same-length-6 : tie.Need-same-length-6
+same-length-6 c = c .before .before .before .before .before .before .before .clear .kept .0 ∙ c .before .before .before .before .before .before .before .before .before .before .before .before .before .before .before .before .before .before .before .before .before .before .before .before .before .arrange .kept .1 .1 .1 .1 .1 .1 .1 .1 .0
+
+returns-3 : tie.Need-returns-3
+returns-3 c =
+    let s = c .before .before .before .before .before .before .before .before .before .before .before .before .before .before .before .before .before .before .before .before .before .before .before .before .before .before .before .before .before .before .before .before .before .before .before .before .before .before .before .before .before .before .before .before .before in
+    let a = s .args in
+    let p = s .pre .sized (c .before .before .before .before .before .before .before .before .before .before .before .before .before .before .before .before .before .before .before .before .before .before .before .before .before .before .before .before .before .before .before .before .before .before .before .before .enum-told .given .1) in
+    let low = low-said (a .n) (p .some) (p .few) (a .covariance .now) (p .cells) _ (square-in _ (p .few)) _ _ (c .before .before .before .before .before .before .before .before .before .before .before .before .before .before .before .before .before .before .before .before .before .before .before .before .before .before .before .before .before .before .before .before .before .before .cov2corr .ensures .0) (c .before .before .before .before .before .before .before .before .before .before .before .before .before .before .before .before .before .before .before .before .before .before .before .before .before .before .before .before .before .before .before .before .told .ensures) in
+    let q = correlations-front (a .n) (p .some) (p .few) (a .covariance .now) (p .cells) _ (square-in _ (p .few)) _ _ (c .before .before .before .before .before .before .before .before .before .before .before .before .before .before .before .before .before .before .before .before .before .before .before .before .before .before .before .before .before .before .before .before .before .before .cov2corr .ensures .0) (c .before .before .before .before .before .before .before .before .before .before .before .before .before .before .before .before .before .before .before .before .before .before .before .before .before .before .before .before .before .before .before .before .told .ensures) _ (c .before .before .before .before .before .before .before .before .before .before .before .before .before .before .before .before .before .before .before .before .before .before .before .before .before .before .before .before .before .before .enum-told3 .given .1) (c .before .before .before .before .before .before .before .before .before .before .before .before .before .before .before .before .before .before .before .before .before .before .before .before .before .before .before .before .before .before .before .before .before .before .cov2corr .ensures .1) in
+    worked-done (a .distance) (a .covariance .now) (a .n) _ _ _ _ _ _ _ _ p _ _ q (length-alike (a .covariance .now) _ (a .n) q) _ (c .before .before .before .before .before .before .before .before .before .before .before .before .before .before .before .before .before .before .before .before .before .before .before .before .before .arrange .ensures) _ _ _ (c .before .before .before .before .before .before .before .before .before .before .before .before .before .before .before .before .before .before .before .before .before .before .before .before .before .before .before .before .before .before .before .before .before .before .before .before .enum-told .given .1) low (c .before .before .before .before .before .before .before .before .before .before .before .before .before .before .before .before .before .before .before .before .before .before .before .before .before .before .before .before .before .before .enum-told3 .given .1) (c .before .before .before .before .before .before .before .before .before .before .before .before .before .before .before .seriate-matrix .ensures .1) (c .before .before .before .before .before .before .before .before .before .before .before .seriate-matrix2 .ensures .1) _ (c .before .before .before .before .before .before .before .before .before .before .before .before .before .before .before .before .before .before .before .before .before .before .before .before .before .arrange .kept .1 .1 .1 .1 .1 .1 .1 .1 .0) (c .before .before .before .before .before .before .before .clear .ensures) (c .before .before .before .recursive-bisection-min-var .ensures .0) (c .told2 .ensures) (c .before .before .before .recursive-bisection-min-var .ensures .1)
 
 pub work-spec : {M : Type 1} → statement M
 work-spec =
     tie.close
     (tie.spec
-    cov2corr-requires
-    told-requires
     enum-told
     enum-told-2
-    same-length
     returns
+    slice-aggregate-cov2corr
+    cov2corr-requires
+    told-requires
+    enum-told-3
+    enum-told-4
+    returns-2
+    mul-m
+    array-share-prefix-corr
+    slice-aggregate-alike
     arrange-requires
-    show-requires
-    share-requires
+    slice-reshare-prefix-leaves
+    slice-aggregate-leaves
+    slice-reshare-prefix-far
+    slice-aggregate-far
+    seriate-matrix-requires
+    seriate-matrix-requires-2
+    clear-requires
+    recursive-bisection-min-var-requires
+    told-requires-2
+    same-length
     same-length-2
     same-length-3
     same-length-4
     same-length-5
     same-length-6
-    same-length-7
-    returns-2)
+    returns-3)
