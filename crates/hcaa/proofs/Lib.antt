@@ -1,4 +1,3 @@
-pub mod Estimates
-pub mod Prices
-pub mod Judged
 pub mod Equal
+pub mod Stages
+pub mod Judged

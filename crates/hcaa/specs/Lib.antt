@@ -1,2 +1,2 @@
 pub mod Hcaa
-pub mod Steps
+pub mod Inner

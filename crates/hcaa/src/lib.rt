@@ -9,19 +9,16 @@ use refusal::Refusal;
 use sharing::Metric;
 use sharing::NamedMetric;
 ghost use mathlib.Core.Path.{_≡_};
-ghost use mathlib.Core.Bool.{true, cond};
-ghost use mathlib.Core.List.{[]};
-ghost use Prim.Native.Nat.{_≤_};
+ghost use mathlib.Core.Bool.{Bool};
+ghost use mathlib.Core.List.{List};
+ghost use Prim.Native.Nat.{ℕ, _*_};
 ghost use lib.ListN.{length, take};
 ghost use Rattle.refusal.specs.Table.{first};
 ghost use Rattle.refusal.specs.declared.Outcome.the-variants.{Done};
 ghost use Rattle.lent.specs.Lent.{sizes};
-ghost use Rattle.lent.specs.declared.Shape.the-variants.{Absent, Of};
-ghost use Rattle.sharing.specs.Names.{metricNamed};
-ghost use Rattle.sharing.specs.Split.{inputs};
-ghost use Rattle.hierarchy.specs.Hierarchy.{rule, roomFor, Answered};
-ghost use Rattle.hcaa.specs.Hcaa.{job, metricOf, countOf, usedRule, usedCovariance, Allocated, Equally};
-ghost use Rattle.hcaa.specs.Steps.{named, namesJudged, judgeTable, sizesOf, held, rulesJudged, expectedJudged, estimatesOf, Ready, Finished};
+ghost use Rattle.metrics.specs.declared.Metric.{Metric};
+ghost use Rattle.hcaa.specs.Hcaa.{hcaaCovarianceBy, metricOf, unnamed, clusterCount, namesJudged, rowsJudged, sharpeJudged, HcaaAllocated};
+ghost use Rattle.hcaa.specs.Inner.{wantedBy, heightOf, hcaaJudgeTable, restOutcome, Sources, Gathered, Coverable, Hopeful, hopesOf, hopedFor};
 
 // Into how many clusters the tree is cut.
 pub enum Clusters {
@@ -29,11 +26,47 @@ pub enum Clusters {
     Count(usize),
 }
 
-// The metric of a name; of one that is refused, equal weighting, which is never used.
-fn metric_of(name: &[u8]) -> Metric
-    ensures { λ r. ⌜ r ≡ metricOf (metricNamed (now (name .entry))) ⌝ }
+// Which expected returns a call reads: Sharpe alone reads any, and estimates them by a method where none are given.
+enum Wanted {
+    Nothing,
+    Given,
+    Mean,
+    Exponential,
+    Unknown,
+}
+
+fn wanted_by(metric: Metric, given: bool, method: &[u8]) -> Wanted
+    ensures { λ r. ⌜ r ≡ wantedBy metric given (now (method .entry)) ⌝ }
 {
-    let read = sharing::metric_named(name);
+    let sharpe = sharing::is_sharpe(metric);
+    if !sharpe {
+        return Wanted::Nothing;
+    }
+    if given {
+        return Wanted::Given;
+    }
+    if text::is_word(method, b"mean") {
+        return Wanted::Mean;
+    }
+    if text::is_word(method, b"exponential") {
+        return Wanted::Exponential;
+    }
+    Wanted::Unknown
+}
+
+fn is_unnamed(read: NamedMetric) -> bool
+    ensures { λ r. ⌜ r ≡ unnamed read ⌝ }
+{
+    match read {
+        NamedMetric::Of(_) => false,
+        NamedMetric::Refused(_) => true,
+    }
+}
+
+// The metric of a name; of one that is refused, equal weighting, which is never used.
+fn metric_of(read: NamedMetric) -> Metric
+    ensures { λ r. ⌜ r ≡ metricOf read ⌝ }
+{
     match read {
         NamedMetric::Of(metric) => metric,
         NamedMetric::Refused(_) => Metric::EqualWeighting,
@@ -41,7 +74,7 @@ fn metric_of(name: &[u8]) -> Metric
 }
 
 fn count_of(clusters: Clusters, n: usize) -> usize
-    ensures { λ r. ⌜ r ≡ countOf clusters n ⌝ }
+    ensures { λ r. ⌜ r ≡ clusterCount clusters n ⌝ }
 {
     match clusters {
         Clusters::All => n,
@@ -49,24 +82,29 @@ fn count_of(clusters: Clusters, n: usize) -> usize
     }
 }
 
-// What the metric's name alone refuses.
-fn judge_metric(name: &[u8]) -> Outcome
-    ensures { λ r. ⌜ r ≡ named (metricNamed (now (name .entry))) ⌝ }
+// The rows of a matrix that was made, 0 where it was refused.
+fn height_of(answer: Answer) -> usize
+    ensures { λ r. ⌜ r ≡ heightOf answer ⌝ }
 {
-    let read = sharing::metric_named(name);
-    match read {
-        NamedMetric::Of(_) => Outcome::Done,
-        NamedMetric::Refused(r) => Outcome::Refused(r),
+    match answer {
+        Answer::Matrix { rows, columns: _ } => rows,
+        Answer::Refused(_) => 0,
     }
 }
 
 // No matrix, the metric, no assets.
-fn judge_names(n: usize, prices: Shape, returns: Shape, covariance: Shape, metric: &[u8]) -> Outcome
-    ensures { λ r. ⌜ r ≡ first (namesJudged n prices returns covariance (now (metric .entry))) ⌝ }
+fn judge_names(
+    n: usize,
+    prices: Shape,
+    returns: Shape,
+    covariance: Shape,
+    metric: NamedMetric,
+) -> Outcome
+    ensures { λ r. ⌜ r ≡ first (namesJudged n prices returns covariance metric) ⌝ }
 {
     let alone = refusal::both(inputs::is_absent(returns), inputs::is_absent(covariance));
     let o = refusal::refuse(n == 0, Refusal::NoData, Outcome::Done);
-    let o = refusal::and_then(judge_metric(metric), o);
+    let o = refusal::refuse(is_unnamed(metric), Refusal::UnknownAllocationMetric, o);
     refusal::refuse(
         refusal::both(inputs::is_absent(prices), alone),
         Refusal::NoData,
@@ -83,13 +121,14 @@ fn judge(
     returns_len: usize,
     covariance: Shape,
     covariance_len: usize,
-    metric: &[u8],
+    metric: NamedMetric,
     rows: usize,
     order: usize,
     weights: usize,
     scratch: usize,
 ) -> Outcome
-    ensures { λ r. ⌜ r ≡ first (judgeTable n prices «prices_len» returns «returns_len» covariance «covariance_len» (now (metric .entry)) (roomFor rows order weights scratch)) ⌝ }
+    ensures { λ r. ⌜ r ≡ first (hcaaJudgeTable n prices «prices_len» returns «returns_len» covariance «covariance_len» metric
+        (record { rows = rows; order = order; weights = weights; scratch = scratch })) ⌝ }
 {
     let matrices = inputs::judge_matrices(
         n,
@@ -106,8 +145,8 @@ fn judge(
 }
 
 // The columns of `height` rows of returns, too few rows for a covariance, the size of a given one.
-fn judge_rules(n: usize, height: usize, columns: usize, covariance: Shape) -> Outcome
-    ensures { λ r. ⌜ r ≡ first (rulesJudged n height columns covariance) ⌝ }
+fn judge_rows(n: usize, height: usize, columns: usize, covariance: Shape) -> Outcome
+    ensures { λ r. ⌜ r ≡ first (rowsJudged n height columns covariance) ⌝ }
 {
     let o = refusal::refuse(
         inputs::has_other_size(covariance, n),
@@ -126,423 +165,126 @@ fn judge_rules(n: usize, height: usize, columns: usize, covariance: Shape) -> Ou
     )
 }
 
-// Sharpe's expected returns: given but not one for each asset, no rows to estimate them from, an unknown method.
-fn judge_expected(
+// The wanted expected returns: given but not one for each asset, no rows to estimate them from, an unknown method.
+fn judge_expected(n: usize, height: usize, expected: usize, wanted: Wanted) -> Outcome
+    ensures { λ r. ⌜ ((m : Metric) (given : Bool) (method : List ℕ) → wanted ≡ wantedBy m given method
+        → r ≡ first (sharpeJudged m given method expected n height)) ⌝ }
+{
+    let missing = Refusal::MissingExpectedReturnsForSharpe;
+    let unknown = Outcome::Refused(Refusal::UnknownReturns);
+    match wanted {
+        Wanted::Nothing => Outcome::Done,
+        Wanted::Given => {
+            refusal::refuse(expected != n, Refusal::DimensionMismatch, Outcome::Done)
+        }
+        Wanted::Mean => refusal::refuse(height == 0, missing, Outcome::Done),
+        Wanted::Exponential => refusal::refuse(height == 0, missing, Outcome::Done),
+        Wanted::Unknown => refusal::refuse(height == 0, missing, unknown),
+    }
+}
+
+// What is refused once the returns are there, or were refused themselves.
+fn judge_gathered(
+    returns: Answer,
     n: usize,
-    height: usize,
+    covariance: Shape,
     expected: usize,
-    expected_given: bool,
-    sharpe: bool,
-    method: &[u8],
+    wanted: Wanted,
 ) -> Outcome
-    ensures { λ r. ⌜ r ≡ first (expectedJudged n height expected «expected_given» sharpe (now (method .entry))) ⌝ }
+    ensures { λ r. ⌜ ((m : Metric) (given : Bool) (method : List ℕ) → wanted ≡ wantedBy m given method
+        → r ≡ restOutcome returns n covariance expected m given method) ⌝ }
 {
-    let unknown = refusal::both(
-        !text::is_word(method, b"mean"),
-        !text::is_word(method, b"exponential"),
-    );
-    let o = refusal::refuse(
-        refusal::both(sharpe, refusal::both(!expected_given, unknown)),
-        Refusal::UnknownReturns,
-        Outcome::Done,
-    );
-    let o = refusal::refuse(
-        refusal::both(sharpe, refusal::both(!expected_given, height == 0)),
-        Refusal::MissingExpectedReturnsForSharpe,
-        o,
-    );
-    refusal::refuse(
-        refusal::both(sharpe, refusal::both(expected_given, expected != n)),
-        Refusal::DimensionMismatch,
-        o,
-    )
-}
-
-// The expected returns of n columns, by the method, at the front of out.
-fn estimate(returns: &[f64], height: usize, n: usize, method: &[u8], out: &mut [f64])
-    requires { ⌜ first (sizes (length (now returns)) height n) ≡ Done ⌝ }
-    requires { ⌜ length (now out) ≡ 64 ⌝ }
-    ensures { λ _. ⌜ take n (now (out .exit)) ≡ estimatesOf (now (method .entry)) (now (returns .entry)) height n ⌝ }
-{
-    if text::is_word(method, b"mean") {
-        stats::mean_expected_returns(returns, height, n, out);
-        return;
+    match returns {
+        Answer::Matrix {
+            rows: height,
+            columns,
+        } => {
+            let rows = judge_rows(n, height, columns, covariance);
+            refusal::and_then(rows, judge_expected(n, height, expected, wanted))
+        }
+        Answer::Refused(r) => Outcome::Refused(r),
     }
-    stats::exponential_expected_returns(returns, height, n, out);
 }
 
-// How many of the given expected returns are read: Sharpe reads them, no other metric does.
-fn read_of(sharpe: bool, expected: usize) -> usize
-    ensures { λ r. ⌜ r ≡ cond sharpe expected 0 ⌝ }
-{
-    if sharpe { expected } else { 0 }
-}
-
-// The allocation on a covariance, with expected returns that are estimated at the front of `made`.
-fn on_estimate(
-    made: &mut [f64],
-    n: usize,
-    returns: &[f64],
-    height: usize,
-    covariance: &[f64],
-    metric: Metric,
-    method: &[u8],
-    confidence: f64,
-    count: usize,
-    distance: Distance,
-    linkage: Linkage,
-    rows: &mut [usize],
-    order: &mut [usize],
-    weights: &mut [f64],
-    scratch: &mut [f64],
-) -> Outcome
-    requires { ⌜ length (now made) ≡ 64 ⌝ }
-    requires { ⌜ first (sizes (length (now returns)) height n) ≡ Done ⌝ }
-    ensures { λ r. ⌜ Answered (rule metric (inputs (estimatesOf (now (method .entry)) (now (returns .entry)) height n) (now (returns .entry)) height confidence) true n count) distance linkage (now (covariance .entry)) n n (roomFor (length (now (rows .entry))) (length (now (order .entry))) (length (now (weights .entry))) (length (now (scratch .entry)))) r (now (rows .exit)) (now (order .exit)) (now (weights .exit)) (now (scratch .exit)) ⌝ }
-{
-    estimate(returns, height, n, method, made);
-    hierarchy::allocate_covariance(
-        covariance,
-        n,
-        n,
-        metric,
-        &made[..n],
-        true,
-        returns,
-        height,
-        n,
-        confidence,
-        count,
-        distance,
-        linkage,
-        rows,
-        order,
-        weights,
-        scratch,
-    )
-}
-
-// The allocation on a covariance.
-fn on_covariance(
-    n: usize,
-    returns: &[f64],
-    height: usize,
-    covariance: &[f64],
-    expected: &[f64],
-    expected_given: bool,
-    metric: &[u8],
-    method: &[u8],
-    confidence: f64,
-    clusters: Clusters,
-    distance: Distance,
-    linkage: Linkage,
-    rows: &mut [usize],
-    order: &mut [usize],
-    weights: &mut [f64],
-    scratch: &mut [f64],
-) -> Outcome
-    requires { ⌜ first (sizes (length (now returns)) height n) ≡ Done ⌝ }
-    ensures { λ r. ⌜ Answered (usedRule (held n (now (returns .entry)) height n [] Absent (now (expected .entry)) «expected_given» (now (metric .entry)) (now (method .entry)) confidence clusters distance linkage)) distance linkage (now (covariance .entry)) n n (roomFor (length (now (rows .entry))) (length (now (order .entry))) (length (now (weights .entry))) (length (now (scratch .entry)))) r (now (rows .exit)) (now (order .exit)) (now (weights .exit)) (now (scratch .exit)) ⌝ }
-{
-    let used = metric_of(metric);
-    let count = count_of(clusters, n);
-    let sharpe = sharing::is_sharpe(used);
-    if refusal::both(sharpe, !expected_given) {
-        let mut made = [0.0; 64];
-        return on_estimate(
-            &mut made,
-            n,
-            returns,
-            height,
-            covariance,
-            used,
-            method,
-            confidence,
-            count,
-            distance,
-            linkage,
-            rows,
-            order,
-            weights,
-            scratch,
-        );
-    }
-    let read = read_of(sharpe, expected.len());
-    hierarchy::allocate_covariance(
-        covariance,
-        n,
-        n,
-        used,
-        &expected[..read],
-        true,
-        returns,
-        height,
-        n,
-        confidence,
-        count,
-        distance,
-        linkage,
-        rows,
-        order,
-        weights,
-        scratch,
-    )
-}
-
-// The same on the covariance of the returns, which is made at the front of `made`.
-fn on_returns_alone(
-    made: &mut [f64],
-    n: usize,
-    returns: &[f64],
-    height: usize,
-    expected: &[f64],
-    expected_given: bool,
-    metric: &[u8],
-    method: &[u8],
-    confidence: f64,
-    clusters: Clusters,
-    distance: Distance,
-    linkage: Linkage,
-    rows: &mut [usize],
-    order: &mut [usize],
-    weights: &mut [f64],
-    scratch: &mut [f64],
-) -> Outcome
-    requires { ⌜ length (now made) ≡ 4096 ⌝ }
-    requires { ⌜ first (sizes (length (now returns)) height n) ≡ Done ⌝ }
-    requires { ⌜ 2 ≤ height ⌝ }
-    ensures { λ r. ⌜ Answered (usedRule (held n (now (returns .entry)) height n [] Absent (now (expected .entry)) «expected_given» (now (metric .entry)) (now (method .entry)) confidence clusters distance linkage)) distance linkage (usedCovariance (held n (now (returns .entry)) height n [] Absent (now (expected .entry)) «expected_given» (now (metric .entry)) (now (method .entry)) confidence clusters distance linkage)) n n (roomFor (length (now (rows .entry))) (length (now (order .entry))) (length (now (weights .entry))) (length (now (scratch .entry)))) r (now (rows .exit)) (now (order .exit)) (now (weights .exit)) (now (scratch .exit)) ⌝ }
-{
-    stats::covariance(returns, height, n, made);
-    let cells = n * n;
-    on_covariance(
-        n,
-        returns,
-        height,
-        &made[..cells],
-        expected,
-        expected_given,
-        metric,
-        method,
-        confidence,
-        clusters,
-        distance,
-        linkage,
-        rows,
-        order,
-        weights,
-        scratch,
-    )
-}
-
-// The rest of a judged call, once it has its returns.
-fn on_returns(
-    n: usize,
-    returns: &[f64],
-    height: usize,
-    columns: usize,
-    covariance: &[f64],
-    covariance_shape: Shape,
-    expected: &[f64],
-    expected_given: bool,
-    metric: &[u8],
-    method: &[u8],
-    confidence: f64,
-    clusters: Clusters,
-    distance: Distance,
-    linkage: Linkage,
-    rows: &mut [usize],
-    order: &mut [usize],
-    weights: &mut [f64],
-    scratch: &mut [f64],
-) -> Outcome
-    requires { ⌜ first (sizes (length (now returns)) height columns) ≡ Done ⌝ }
-    requires { ⌜ Ready n «covariance_shape» (length (now covariance)) (roomFor (length (now rows)) (length (now order)) (length (now weights)) (length (now scratch))) ⌝ }
-    ensures { λ r. ⌜ Finished (held n (now (returns .entry)) height columns (now (covariance .entry)) «covariance_shape» (now (expected .entry)) «expected_given» (now (metric .entry)) (now (method .entry)) confidence clusters distance linkage) (roomFor (length (now (rows .entry))) (length (now (order .entry))) (length (now (weights .entry))) (length (now (scratch .entry)))) r (now (rows .exit)) (now (order .exit)) (now (weights .exit)) (now (scratch .exit)) ⌝ }
-{
-    let rules = judge_rules(n, height, columns, covariance_shape);
-    let sharpe = sharing::is_sharpe(metric_of(metric));
-    let expects = judge_expected(n, height, expected.len(), expected_given, sharpe, method);
-    let said = refusal::and_then(rules, expects);
-    let Outcome::Done = said else {
-        hierarchy::clear_all(rows, order, weights, scratch);
-        return said;
-    };
-    if inputs::is_absent(covariance_shape) {
-        let mut made = [0.0; 4096];
-        return on_returns_alone(
-            &mut made,
-            n,
-            returns,
-            height,
-            expected,
-            expected_given,
-            metric,
-            method,
-            confidence,
-            clusters,
-            distance,
-            linkage,
-            rows,
-            order,
-            weights,
-            scratch,
-        );
-    }
-    on_covariance(
-        n,
-        returns,
-        height,
-        covariance,
-        expected,
-        expected_given,
-        metric,
-        method,
-        confidence,
-        clusters,
-        distance,
-        linkage,
-        rows,
-        order,
-        weights,
-        scratch,
-    )
-}
-
-// The same of a call that gives prices and no returns: they are made at the front of `made`.
-fn on_prices(
-    made: &mut [f64],
-    n: usize,
-    prices: &[f64],
-    height: usize,
-    columns: usize,
-    covariance: &[f64],
-    covariance_shape: Shape,
-    expected: &[f64],
-    expected_given: bool,
-    metric: &[u8],
-    method: &[u8],
-    confidence: f64,
-    clusters: Clusters,
-    resample_by: &[u8],
-    distance: Distance,
-    linkage: Linkage,
-    rows: &mut [usize],
-    order: &mut [usize],
-    weights: &mut [f64],
-    scratch: &mut [f64],
-) -> Outcome
-    requires { ⌜ length (now made) ≡ 4096 ⌝ }
-    requires { ⌜ first (sizes (length (now prices)) height columns) ≡ Done ⌝ }
-    requires { ⌜ Ready n «covariance_shape» (length (now covariance)) (roomFor (length (now rows)) (length (now order)) (length (now weights)) (length (now scratch))) ⌝ }
-    ensures { λ r. ⌜ Finished (job n (now (prices .entry)) (Of height columns) [] Absent (now (covariance .entry)) «covariance_shape» (now (expected .entry)) «expected_given» (now (metric .entry)) (now (method .entry)) confidence clusters (now («resample_by» .entry)) distance linkage) (roomFor (length (now (rows .entry))) (length (now (order .entry))) (length (now (weights .entry))) (length (now (scratch .entry)))) r (now (rows .exit)) (now (order .exit)) (now (weights .exit)) (now (scratch .exit)) ⌝ }
-{
-    let step = resample::freq_step(resample_by);
-    let Answer::Matrix {
-        rows: kept,
-        columns: _,
-    } = inputs::sampled_returns(prices, height, columns, step, made)
-    else {
-        hierarchy::clear_all(rows, order, weights, scratch);
-        return Outcome::Refused(Refusal::NoData);
-    };
-    let cells = kept * columns;
-    on_returns(
-        n,
-        &made[..cells],
-        kept,
-        columns,
-        covariance,
-        covariance_shape,
-        expected,
-        expected_given,
-        metric,
-        method,
-        confidence,
-        clusters,
-        distance,
-        linkage,
-        rows,
-        order,
-        weights,
-        scratch,
-    )
-}
-
-// The same of any call that gives no returns: without prices it has no rows of them.
-fn without_returns(
-    n: usize,
+// The returns of a call that is not refused so far, at the front of `out`: those that are given, else made from the prices, else none.
+fn gather_returns(
+    said: Outcome,
     prices: &[f64],
     prices_shape: Shape,
+    returns: &[f64],
+    returns_shape: Shape,
+    step: usize,
+    out: &mut [f64],
+) -> Answer
+    requires { ⌜ length (now out) ≡ 4096 ⌝ }
+    requires { ⌜ Sources said (length (now prices)) «prices_shape» (length (now returns)) «returns_shape» ⌝ }
+    ensures { λ r. ⌜ Gathered said (now (prices .entry)) «prices_shape» (now (returns .entry)) «returns_shape» step r (now (out .exit)) ⌝ }
+{
+    let Outcome::Done = said else {
+        return lent::answered(said, 0, 0);
+    };
+    if let Shape::Of { rows, columns } = returns_shape {
+        lent::copy(returns, out);
+        return Answer::Matrix { rows, columns };
+    }
+    let Shape::Of { rows, columns } = prices_shape else {
+        return lent::answered(said, 0, 0);
+    };
+    inputs::sampled_returns(prices, rows, columns, step, out)
+}
+
+// The covariance of n assets, at the front of `out`: the given one, else that of the returns.
+fn gather_covariance(
     covariance: &[f64],
     covariance_shape: Shape,
-    expected: &[f64],
-    expected_given: bool,
-    metric: &[u8],
-    method: &[u8],
-    confidence: f64,
-    clusters: Clusters,
-    resample_by: &[u8],
-    distance: Distance,
-    linkage: Linkage,
-    rows: &mut [usize],
-    order: &mut [usize],
-    weights: &mut [f64],
-    scratch: &mut [f64],
-) -> Outcome
-    requires { ⌜ first (sizesOf «prices_shape» (length (now prices))) ≡ Done ⌝ }
-    requires { ⌜ Ready n «covariance_shape» (length (now covariance)) (roomFor (length (now rows)) (length (now order)) (length (now weights)) (length (now scratch))) ⌝ }
-    ensures { λ r. ⌜ Finished (job n (now (prices .entry)) «prices_shape» [] Absent (now (covariance .entry)) «covariance_shape» (now (expected .entry)) «expected_given» (now (metric .entry)) (now (method .entry)) confidence clusters (now («resample_by» .entry)) distance linkage) (roomFor (length (now (rows .entry))) (length (now (order .entry))) (length (now (weights .entry))) (length (now (scratch .entry)))) r (now (rows .exit)) (now (order .exit)) (now (weights .exit)) (now (scratch .exit)) ⌝ }
+    returns: &[f64],
+    height: usize,
+    n: usize,
+    out: &mut [f64],
+)
+    requires { ⌜ length (now out) ≡ 4096 ⌝ }
+    requires { ⌜ first (sizes (length (now returns)) height n) ≡ Done ⌝ }
+    requires { ⌜ Coverable «covariance_shape» (length (now covariance)) height n ⌝ }
+    ensures { λ _. ⌜ take (n * n) (now (out .exit)) ≡ hcaaCovarianceBy (now (covariance .entry)) (now (returns .entry)) height n «covariance_shape» ⌝ }
 {
-    let Shape::Of {
-        rows: height,
-        columns,
-    } = prices_shape
-    else {
-        return on_returns(
-            n,
-            &prices[..0],
-            0,
-            0,
-            covariance,
-            covariance_shape,
-            expected,
-            expected_given,
-            metric,
-            method,
-            confidence,
-            clusters,
-            distance,
-            linkage,
-            rows,
-            order,
-            weights,
-            scratch,
-        );
-    };
-    let mut made = [0.0; 4096];
-    on_prices(
-        &mut made,
-        n,
-        prices,
-        height,
-        columns,
-        covariance,
-        covariance_shape,
-        expected,
-        expected_given,
-        metric,
-        method,
-        confidence,
-        clusters,
-        resample_by,
-        distance,
-        linkage,
-        rows,
-        order,
-        weights,
-        scratch,
-    )
+    if inputs::is_absent(covariance_shape) {
+        stats::covariance(returns, height, n, out);
+        return;
+    }
+    lent::copy(covariance, out);
+}
+
+// How many expected returns are read, and those at the front of `out`: the given or the estimated ones.
+fn gather_expected(
+    expected: &[f64],
+    wanted: Wanted,
+    returns: &[f64],
+    height: usize,
+    n: usize,
+    out: &mut [f64],
+) -> usize
+    requires { ⌜ length (now out) ≡ 64 ⌝ }
+    requires { ⌜ first (sizes (length (now returns)) height n) ≡ Done ⌝ }
+    requires { ⌜ Hopeful (length (now expected)) wanted n ⌝ }
+    ensures { λ r. ⌜ r ≡ hopesOf wanted n ⌝ }
+    ensures { λ r. ⌜ take r (now (out .exit)) ≡ hopedFor (now (expected .entry)) (now (returns .entry)) height n wanted ⌝ }
+{
+    match wanted {
+        Wanted::Nothing => 0,
+        Wanted::Given => {
+            lent::copy(expected, out);
+            n
+        }
+        Wanted::Mean => {
+            stats::mean_expected_returns(returns, height, n, out);
+            n
+        }
+        Wanted::Exponential => {
+            stats::exponential_expected_returns(returns, height, n, out);
+            n
+        }
+        Wanted::Unknown => 0,
+    }
 }
 
 // The weights of the assets, with their tree and its leaf order: of the covariance that is given, else of one made from returns, which are made from prices where none are given.
@@ -568,9 +310,37 @@ pub fn allocate(
     weights: &mut [f64],
     scratch: &mut [f64],
 ) -> Outcome
-    ensures { λ r. ⌜ Allocated (job assets (now (prices .entry)) «prices_shape» (now (returns .entry)) «returns_shape» (now (covariance .entry)) «covariance_shape» (now (expected .entry)) «expected_given» (now (metric .entry)) (now (method .entry)) confidence clusters (now («resample_by» .entry)) distance linkage) (roomFor (length (now (rows .entry))) (length (now (order .entry))) (length (now (weights .entry))) (length (now (scratch .entry)))) r (now (rows .exit)) (now (order .exit)) (now (weights .exit)) (now (scratch .exit)) ⌝ }
-    ensures { λ r. ⌜ Equally (job assets (now (prices .entry)) «prices_shape» (now (returns .entry)) «returns_shape» (now (covariance .entry)) «covariance_shape» (now (expected .entry)) «expected_given» (now (metric .entry)) (now (method .entry)) confidence clusters (now («resample_by» .entry)) distance linkage) r (now (rows .exit)) (now (weights .exit)) ⌝ }
+    ensures { λ r. ⌜ HcaaAllocated
+        (record {
+          assets = assets;
+          prices = now (prices .entry);
+          prices-shape = «prices_shape»;
+          returns = now (returns .entry);
+          returns-shape = «returns_shape»;
+          covariance = now (covariance .entry);
+          covariance-shape = «covariance_shape»;
+          expected = now (expected .entry);
+          expected-given = «expected_given»;
+          metric = now (metric .entry);
+          method = now (method .entry);
+          confidence = confidence;
+          clusters = clusters;
+          resample-by = now («resample_by» .entry);
+          distance = distance;
+          linkage = linkage;
+        })
+        (record {
+          rows = length (now (rows .entry));
+          order = length (now (order .entry));
+          weights = length (now (weights .entry));
+          scratch = length (now (scratch .entry));
+        })
+        r (now (rows .exit)) (now (order .exit)) (now (weights .exit)) (now (scratch .exit)) ⌝ }
 {
+    let read = sharing::metric_named(metric);
+    let used = metric_of(read);
+    let wanted = wanted_by(used, expected_given, method);
+    let step = resample::freq_step(resample_by);
     let said = judge(
         assets,
         prices_shape,
@@ -579,55 +349,47 @@ pub fn allocate(
         returns.len(),
         covariance_shape,
         covariance.len(),
-        metric,
+        read,
         rows.len(),
         order.len(),
         weights.len(),
         scratch.len(),
     );
+    let mut made = [0.0; 4096];
+    let got = gather_returns(
+        said,
+        prices,
+        prices_shape,
+        returns,
+        returns_shape,
+        step,
+        &mut made,
+    );
+    let said = judge_gathered(got, assets, covariance_shape, expected.len(), wanted);
     let Outcome::Done = said else {
         hierarchy::clear_all(rows, order, weights, scratch);
         return said;
     };
-    let Shape::Of {
-        rows: height,
-        columns,
-    } = returns_shape
-    else {
-        return without_returns(
-            assets,
-            prices,
-            prices_shape,
-            covariance,
-            covariance_shape,
-            expected,
-            expected_given,
-            metric,
-            method,
-            confidence,
-            clusters,
-            resample_by,
-            distance,
-            linkage,
-            rows,
-            order,
-            weights,
-            scratch,
-        );
-    };
-    on_returns(
+    let height = height_of(got);
+    let cells = height * assets;
+    let held = &made[..cells];
+    let mut cov = [0.0; 4096];
+    gather_covariance(covariance, covariance_shape, held, height, assets, &mut cov);
+    let mut hoped = [0.0; 64];
+    let hopes = gather_expected(expected, wanted, held, height, assets, &mut hoped);
+    let area = assets * assets;
+    hierarchy::allocate_covariance(
+        &cov[..area],
         assets,
-        returns,
+        assets,
+        used,
+        &hoped[..hopes],
+        true,
+        held,
         height,
-        columns,
-        covariance,
-        covariance_shape,
-        expected,
-        expected_given,
-        metric,
-        method,
+        assets,
         confidence,
-        clusters,
+        count_of(clusters, assets),
         distance,
         linkage,
         rows,

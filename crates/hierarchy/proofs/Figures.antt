@@ -8,7 +8,7 @@ use lib.Dec.{eqb}
 use lib.ListN.{replicate}
 use lib.Ieee.{Float, binary64, size, span as ieee-span, climb, odd, units, round, neg, add, sum, sub, mul, div, ofInt, lt, le, eq, isNan, ofFields, ofBits, toBits}
 use Rattle.arithmetic.specs.Constants.{pz}
-use Rattle.arithmetic.specs.Arithmetic.{minOf, maxOf, absOf, clampOf, finiteOf, oneOver}
+use Rattle.arithmetic.specs.Arithmetic.{minOf, maxOf, absOf, clampOf, finiteOf, countOf, oneOver}
 use Rattle.arithmetic.specs.Root.{isqrt, root}
 use Rattle.refusal.specs.Refusal.{numberOf, valuesOf}
 use Rattle.refusal.specs.Table.{first}
@@ -20,19 +20,20 @@ use Rattle.lent.specs.Lent.{overLimit, otherLength, sizes, laid}
 use Rattle.stats.specs.Covariance.{correlationCell, anyLow}
 use Rattle.distances.specs.Distances.{clamped, distanceOf, distanceCell, offDiagonal, square, between, betweenCell}
 use Rattle.tree.specs.Tree.{grow, treeAt, leaves}
-use Rattle.linkage.specs.Merge.{wardF, updateF, before, near, better, lesser, greater, offer, look, scanRow, scanFrom, scanAll, both, movable, moved, movedAll, merged, step, copied, numbered, start, stateAt, mergeRows}
+use Rattle.linkage.specs.Merge.{wardF, updateF, pairBefore, near, better, offer, look, scanRow, scanFrom, scanAll, both, movable, moved, movedAll, merged, step, copied, start, stateAt, mergeRows}
 use Rattle.linkage.specs.declared.Distance.the-variants.{Correlation}
 use Rattle.linkage.specs.declared.Linkage.the-variants.{Single}
-use Rattle.clusters.specs.Clusters.{recip, recipSum, shares, term, varianceOf, outside, anyLow as anyLowOf, riskTable, sizeTable, sharesOutcome, varianceOutcome, varianceAnswer}
-use Rattle.clusters.specs.Shares.{isNone, weightsIn}
-use Rattle.parity.specs.Parity.{correlationsOf, treeDistances}
+use Rattle.clusters.specs.Clusters.{recip, recipSum, shares, term, varianceOf, outside, anyListedLow as anyLowOf, riskTable, sizeTable, sharesOutcome, varianceOutcome, varianceAnswer}
+use Rattle.clusters.specs.Shares.{factorOf, isNone, weightsIn}
+use Rattle.distances.specs.declared.Measure.the-variants.{Hcaa}
+use Rattle.arranging.specs.Arranging.{correlationsOf, distancesIn, treeDistances, treeRows, treeOrder}
 use Rattle.ordering.specs.Nearest.{noPart}
-use Rattle.sharing.specs.declared.Metric.{Metric}
-use Rattle.sharing.specs.declared.Metric.the-variants.{MinimumVariance, SharpeRatio, EqualWeighting, ExpectedShortfall}
-use Rattle.sharing.specs.Split.{Inputs, inputs, bounded, splitBy, byRisk, scored, splitOf}
-use Rattle.sharing.specs.Allot.{spreadOf, equalOf, dealTo, variedOf, insideOf, allotted, sharesOf}
-use Rattle.sharing.specs.Down.{isSharpe, isTailRisk, tailLines, otherRows}
-use Rattle.hierarchy.specs.Hierarchy.{Rule, rule, Room, roomFor, distancesOf, rowsOf, orderOf, weightsOf, roomLines, sizeLines, shapeLines, expectedLines, shareLines, hierarchyTable, hierarchyOutcome}
+use Rattle.metrics.specs.declared.Metric.{Metric}
+use Rattle.metrics.specs.declared.Metric.the-variants.{MinimumVariance, SharpeRatio, EqualWeighting, ExpectedShortfall}
+use Rattle.sharing.specs.Split.{Inputs, bounded, splitBy, byRisk, scored, splitOf}
+use Rattle.sharing.specs.Allot.{spreadOf, equalOf, dealTo, variedOf, insideOf, allotted, downShares}
+use Rattle.sharing.specs.Down.{isSharpe, isTailRisk, metricTailLines, otherRows}
+use Rattle.hierarchy.specs.Hierarchy.{Rule, HierarchyCall, HierarchyRoom, hcaaRows, hcaaOrder, hcaaShares, hierarchyRoomLines, hierarchySizeLines, hierarchyShapeLines, expectedLines, ruleLines, hierarchyJudgeTable, hcaaRiskLines, hierarchyTable, hierarchyOutcome}
 
 abbrev all : List Bool → Bool
 all [] = true
@@ -53,33 +54,38 @@ told outcome.Done = 0 ∷ []
 told (outcome.Refused r) = numberOf r ∷ valuesOf r
 
 -- the buffers that n assets take
-abbrev room : ℕ → Room
-room n = roomFor (2 * (n - 1)) n n 8192
+abbrev room : ℕ → HierarchyRoom
+room n = record { rows = 2 * (n - 1); order = n; weights = n; scratch = 8192 }
 
 -- and the bits of the weights
 abbrev answer : Outcome → Rule → List Float → ℕ → List ℕ
-answer o q cov n = told o ++ map (toBits binary64) (laid pz o n (weightsIn (weightsOf q Correlation Single cov n)))
+answer o q cov n = told o ++ map (toBits binary64) (laid pz o n (weightsIn (hcaaShares q Correlation Single cov n)))
 
-abbrev weights : Rule → List ℕ → ℕ → List ℕ
-weights q cov n = answer (hierarchyOutcome q Correlation Single (doubles cov) n n (room n)) q (doubles cov) n
+abbrev weights : HierarchyCall → List ℕ → ℕ → List ℕ
+weights q cov n = answer (hierarchyOutcome q Correlation Single (doubles cov) n n (room n)) (q .rule) (doubles cov) n
 
-abbrev refused : Rule → List ℕ → ℕ → ℕ → Room → List ℕ
+abbrev refused : HierarchyCall → List ℕ → ℕ → ℕ → HierarchyRoom → List ℕ
 refused q cov rows w r = told (hierarchyOutcome q Correlation Single (doubles cov) rows w r)
 
 -- no expected returns and no return rows
 abbrev none : Inputs
-none = inputs [] [] 0 pz
+none = record { expected = []; returns = []; return-rows = 0; confidence = pz }
 
-abbrev equal : ℕ → Rule
-equal k = rule EqualWeighting none false 0 k
+abbrev equal : ℕ → HierarchyCall
+equal k = record { rule = record { metric = EqualWeighting; inputs = none; clusters = k }; expected-given = false; return-columns = 0 }
 
 -- expected returns of no entries, given or not
-abbrev expecting : Metric → Bool → Rule
-expecting m g = rule m none g 0 0
+abbrev expecting : Metric → Bool → HierarchyCall
+expecting m g = record { rule = record { metric = m; inputs = none; clusters = 0 }; expected-given = g; return-columns = 0 }
 
 -- return rows of so many columns in a slice of so many, and the bits of a confidence; 0 clusters
-abbrev tailed : Metric → ℕ → ℕ → ℕ → ℕ → Rule
-tailed m len rows w q = rule m (inputs [] (replicate len pz) rows (ofBits binary64 q)) false w 0
+abbrev tailed : Metric → ℕ → ℕ → ℕ → ℕ → HierarchyCall
+tailed m len rows w q =
+    record {
+      rule = record { metric = m; inputs = record { expected = []; returns = replicate len pz; return-rows = rows; confidence = ofBits binary64 q }; clusters = 0 };
+      expected-given = false;
+      return-columns = w;
+    }
 
 -- the bits of 0, 1/4, the double nearest 1/3, 1/2, 1, the root of 2, and infinity
 abbrev p0 : ℕ
@@ -120,7 +126,7 @@ diagonal a b = a ∷ p0 ∷ p0 ∷ b ∷ []
 abbrev of-scope : List Bool
 of-scope =
     same (weights (equal 3) job 3) (0 ∷ quarter ∷ quarter ∷ half ∷ [])
-    ∷ same (orderOf Correlation Single (doubles job) 3) (2 ∷ 0 ∷ 1 ∷ [])
+    ∷ same (hcaaOrder Correlation Single (doubles job) 3) (2 ∷ 0 ∷ 1 ∷ [])
     ∷ same (weights (equal 2) job 3) (0 ∷ quarter ∷ quarter ∷ half ∷ [])
     ∷ same (weights (equal 1) job 3) (0 ∷ third ∷ third ∷ third ∷ [])
     ∷ same (weights (equal 0) job 3) (6 ∷ 0 ∷ 3 ∷ p0 ∷ p0 ∷ p0 ∷ [])
@@ -128,7 +134,7 @@ of-scope =
     ∷ same (weights (equal 2) (diagonal big one) 2) (1 ∷ p0 ∷ p0 ∷ [])
     ∷ same (weights (equal 1) (diagonal big one) 2) (0 ∷ half ∷ half ∷ [])
     -- "HCAA: root of max(2(1 − c), 0)"
-    ∷ same (map (toBits binary64) (distancesOf (doubles (diagonal one one)) 2)) (p0 ∷ apart ∷ apart ∷ p0 ∷ [])
+    ∷ same (map (toBits binary64) (distancesIn Hcaa (correlationsOf (doubles (diagonal one one)) 2) 2)) (p0 ∷ apart ∷ apart ∷ p0 ∷ [])
     ∷ []
 
 abbrev refusals : List Bool
@@ -143,8 +149,8 @@ refusals =
     -- no assets before another size, and that before Sharpe's; 11 before both; 10 before 11
     ∷ same (refused (equal 0) [] 2 0 (room 0)) (1 ∷ [])
     ∷ same (refused (expecting SharpeRatio false) (one ∷ one ∷ []) 1 2 (room 2)) (3 ∷ [])
-    ∷ same (refused (equal 0) [] 2 0 (roomFor 0 0 0 8191)) (11 ∷ [])
-    ∷ same (refused (equal 0) (one ∷ one ∷ []) 1 2 (roomFor 1 2 2 8192)) (11 ∷ [])
+    ∷ same (refused (equal 0) [] 2 0 (record { rows = 0; order = 0; weights = 0; scratch = 8191 })) (11 ∷ [])
+    ∷ same (refused (equal 0) (one ∷ one ∷ []) 1 2 (record { rows = 1; order = 2; weights = 2; scratch = 8192 })) (11 ∷ [])
     ∷ same (refused (equal 0) (one ∷ []) 1 2 (room 1)) (10 ∷ [])
     ∷ []
 
@@ -164,5 +170,5 @@ of-tails =
     ∷ []
 
 pub figures : all of-scope && (all refusals && all of-tails) ≡ true
-unfolding distancesOf rowsOf orderOf weightsOf roomLines sizeLines shapeLines isTailRisk tailLines otherRows noPart expectedLines shareLines hierarchyTable hierarchyOutcome correlationsOf treeDistances isSharpe sharesOf allotted insideOf variedOf equalOf spreadOf dealTo splitOf scored byRisk splitBy bounded first laid overLimit otherLength sizes tab grid sumTo sumOn sumRows anyTo range span isNone weightsIn recip recipSum shares term varianceOf outside anyLowOf riskTable sizeTable sharesOutcome varianceOutcome varianceAnswer correlationCell anyLow clamped distanceOf distanceCell offDiagonal square between betweenCell wardF updateF before near better lesser greater offer look scanRow scanFrom scanAll both movable moved movedAll merged step copied numbered start stateAt mergeRows grow treeAt leaves minOf maxOf absOf clampOf finiteOf oneOver root isqrt lt le eq isNan neg add sum sub mul div ofInt round units odd trailingZeros size ieee-span climb ofFields ofBits toBits
+unfolding hcaaRows hcaaOrder hcaaShares hierarchyRoomLines hierarchySizeLines hierarchyShapeLines isTailRisk metricTailLines otherRows noPart expectedLines ruleLines hierarchyJudgeTable hcaaRiskLines hierarchyTable hierarchyOutcome correlationsOf distancesIn treeDistances treeRows treeOrder isSharpe downShares allotted insideOf variedOf equalOf spreadOf dealTo splitOf scored factorOf byRisk splitBy bounded first laid overLimit otherLength sizes tab grid sumTo sumOn sumRows anyTo range span isNone weightsIn recip recipSum shares term varianceOf outside anyLowOf riskTable sizeTable sharesOutcome varianceOutcome varianceAnswer correlationCell anyLow clamped distanceOf distanceCell offDiagonal square between betweenCell wardF updateF pairBefore near better offer look scanRow scanFrom scanAll both movable moved movedAll merged step copied start stateAt mergeRows grow treeAt leaves minOf maxOf absOf clampOf finiteOf countOf oneOver root isqrt lt le eq isNan neg add sum sub mul div ofInt round units odd trailingZeros size ieee-span climb ofFields ofBits toBits
 figures = refl

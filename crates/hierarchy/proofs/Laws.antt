@@ -1,105 +1,165 @@
--- The rule's lines, and the sharing on buffers of just the sizes asked: it is refused for a side or a cut cluster alone. Assumes nothing.
-use Prim.Native.Nat.{ℕ, _*_, _≤_}
-use mathlib.Core.Path.{_≡_, refl, ap, _∙_}
+-- What a call that its judge let pass knows, and the stages of a call, in the shape of the needs. Assumes nothing.
+use Prim.Native.Nat.{ℕ, _-_, _*_, _<_, _≤_}
+use mathlib.Core.Path.{_≡_, refl, sym, ap, _∙_}
 use mathlib.Core.Bool.{Bool, true, false}
-use mathlib.Core.List.{List, [], _∷_, _++_}
+use mathlib.Core.List.{List, _++_}
 use native.Mathlib.Omega.{arith}
-use borrow.Author.Tests.{ltb-false, eqb-false}
-use lib.ListN.{length, take, drop, length-append, length-drop}
+use borrow.Author.Tests.{ltb-false, ne-eqb, eqb-false, eqb-true, not-false}
+use lib.Dec.{eqb}
+use lib.ListN.{length, take, getD, replicate}
 use lib.Seq.{length-take-le}
 use lib.Ieee.{Float}
+use mir.Syntax.{w64}
+use mir.Val.{Fits as Word}
 use Rattle.arithmetic.specs.Constants.{pz}
 use Rattle.refusal.specs.Table.{first, orElse, andThen}
 use Rattle.refusal.specs.declared.Refusal.{Refusal}
+use Rattle.refusal.specs.declared.Refusal.the-variants.{NoData, DimensionMismatch}
 use Rattle.refusal.specs.declared.Outcome.{Outcome}
-use Rattle.refusal.specs.declared.Outcome.the-variants.{Done}
-use Rattle.refusal.proofs.Tables.{none, parts-done}
-use Rattle.lent.specs.Lent.{least-scratch, overLimit, otherLength, laid, toldOf}
+use Rattle.refusal.specs.declared.Outcome.the-variants.{Done, Refused}
+use Rattle.refusal.proofs.Tables.{done-refused, none, then-done, then-refused, parts-done}
+use Rattle.lent.specs.Grid.{tab, over}
+use Rattle.lent.specs.Lent.{least-scratch, overLimit, sizes, squares, laid, toldOf}
 use Rattle.lent.specs.declared.Answer.{Answer}
-use Rattle.lent.proofs.Sizes.{same-length, told-as}
-use Rattle.tree.specs.Rows.{isTree}
-use Rattle.clusters.specs.Shares.{weightsIn}
-use Rattle.parity.specs.Steps.{Assets}
-use Rattle.sharing.specs.Allot.{sharesOf}
-use Rattle.sharing.specs.Down.{otherRows, tailLines, Call, call, downOutcome, downAnswer, downWeights}
-use Rattle.sharing.proofs.Judged.{Right, down-as-shares, neither, expecting, feeding}
-use Rattle.hierarchy.specs.Hierarchy.{Rule, expectedLines}
-use Rattle.hierarchy.specs.Steps.{ruleLines, Ruled, shareOutcome}
+use Rattle.lent.proofs.Laws.{square-in, length-grid, tab-of}
+use Rattle.lent.proofs.Sizes.{within-limit, same-length, told-as, laid-done, laid-refused}
+use Rattle.stats.specs.Covariance.{anyLow, correlationCell, correlationOutcome, correlationAnswer, correlations}
+use Rattle.stats.proofs.Laws.{correlation-squared}
+use Rattle.distances.specs.declared.Measure.the-variants.{Hcaa}
+use Rattle.linkage.specs.declared.Distance.{Distance}
+use Rattle.linkage.specs.declared.Linkage.{Linkage}
+use Rattle.arranging.specs.Arranging.{correlationsOf, Arranged}
+use Rattle.arranging.proofs.Laws.{laid-front, squares-pass, Arrangeable, rows-front, order-front}
+use Rattle.sharing.specs.Down.{isSharpe, isTailRisk, metricTailLines}
+use Rattle.sharing.proofs.Judged.{Feeding, neither, expecting, feeding}
+use Rattle.hierarchy.specs.Hierarchy.{HierarchyCall, HierarchyRoom, hierarchyRoomLines, hierarchySizeLines, hierarchyShapeLines, expectedLines, ruleLines, hierarchyJudgeTable, hcaaRows, hcaaOrder}
+use Rattle.hierarchy.specs.Inner.{Sown, Planted}
 
--- ---- the rule
+-- ---- the judge
 
--- two lines before the rest
-pub lines-then : (a b : Bool) (x y : Refusal) (rest : Outcome) → orElse a x (orElse b y rest) ≡ andThen (first ((a, x) ∷ (b, y) ∷ [])) rest
-unfolding first orElse andThen
-lines-then true b x y rest = refl
-lines-then false true x y rest = refl
-lines-then false false x y rest = refl
+-- n assets, their covariance in a slice of len numbers
+pub record Judged (q : HierarchyCall) (n len : ℕ) (room : HierarchyRoom) : Type 0 where
+  pub some : 0 < n
+  pub few : n ≤ 64
+  pub cells : len ≡ n * n
+  pub for-rows : 2 * (n - 1) ≤ room .rows
+  pub for-order : n ≤ room .order
+  pub for-weights : n ≤ room .weights
+  pub for-scratch : least-scratch ≤ room .scratch
+  pub least : 1 ≤ q .rule .clusters
+  pub cut : q .rule .clusters ≤ n
+  pub expects : isSharpe (q .rule .metric) ≡ true → (q .expected-given ≡ true) × (length (q .rule .inputs .expected) ≡ n)
+  pub limits : overLimit (q .rule .inputs .return-rows) (q .return-columns) ≡ false
+  pub returns : length (q .rule .inputs .returns) ≡ q .rule .inputs .return-rows * q .return-columns
+  pub feeds : isTailRisk (q .rule .metric) ≡ true → Feeding (q .rule .inputs) (q .return-columns) n
 
-module _ (q : Rule) (n : ℕ) where
-  pub ruled : overLimit (q .inputs .return-rows) (q .return-columns) ≡ false → otherLength (length (q .inputs .returns)) (q .inputs .return-rows) (q .return-columns) ≡ false
-      → otherRows (q .metric) (q .inputs) (q .return-columns) n ≡ false → first (ruleLines q n) ≡ Done → Ruled q n
-  unfolding ruleLines expectedLines
-  ruled l c w e =
-      let s = parts-done (expectedLines q n) _ e in
-      let a = none (expectedLines q n) (s .0) in
-      let t = parts-done (tailLines (q .metric) (q .inputs)) _ (s .1) in
-      let k = neither _ _ (none _ (t .1) .0) in
-      let z : q .clusters ≡ 0 → ⊥ = eqb-false (q .clusters) 0 (k .0) in
-      record {
-        least = omega arith;
-        cut = ltb-false n (q .clusters) (k .1);
-        expects = expecting _ (q .expected-given) (length (q .inputs .expected)) n (a .0) (a .1 .0);
-        limits = l;
-        cells = c;
-        columns = w;
-        tails = t .0;
-      }
-
--- ---- the sharing
-
-module _ (n : ℕ) (p : Assets n) (q : Rule) (r : Ruled q n) (cov : List Float) (rows : List ℕ) (room scratch : ℕ) (e : length cov ≡ n * n) (t : isTree rows n ≡ true) (f : room ≡ n) (h : least-scratch ≤ scratch) where
-  abbrev asked : Call
-  asked = call (q .metric) (q .inputs) (q .expected-given) (q .return-columns) cov n n rows n (q .clusters)
-
-  right : Right asked room scratch
-  unfolding tailLines
-  right =
-      let l = p .some in
-      let a = none (tailLines (q .metric) (q .inputs)) (r .tails) in
+module _ (q : HierarchyCall) (len rows w : ℕ) (room : HierarchyRoom) (said : Outcome) (e : said ≡ first (hierarchyJudgeTable q len rows w room)) where
+  pub judged : said ≡ Done → Judged q w len room
+  unfolding hierarchyJudgeTable hierarchySizeLines sizes hierarchyRoomLines hierarchyShapeLines expectedLines ruleLines metricTailLines
+  judged d =
+      let a = parts-done (hierarchySizeLines q len rows w) _ (sym e ∙ d) in
+      let g = none (hierarchySizeLines q len rows w) (a .0) in
+      let s = within-limit rows w (g .1 .0) in
+      let b = parts-done (hierarchyRoomLines w room) _ (a .1) in
+      let t = none (hierarchyRoomLines w room) (b .0) in
+      let c = parts-done (hierarchyShapeLines q rows w) _ (b .1) in
+      let h = none (hierarchyShapeLines q rows w) (c .0) in
+      let x = none (expectedLines q w ++ ruleLines (q .rule) w) (c .1) in
+      let k = neither _ _ (x .1 .1 .1 .1 .0) in
+      let no-asset : w ≡ 0 → ⊥ = eqb-false w 0 (h .0) in
+      let no-count : q .rule .clusters ≡ 0 → ⊥ = eqb-false (q .rule .clusters) 0 (k .0) in
+      let square : rows ≡ w = eqb-true rows w (not-false (eqb rows w) (h .1 .0)) in
       record {
         some = omega arith;
-        most = p .wide;
-        height = refl;
-        width = refl;
-        cells = e;
-        fits = omega arith;
-        tree = t;
-        least = r .least;
-        cut = r .cut;
-        expects = r .expects;
-        enough = h;
-        limits = r .limits;
-        returns = same-length (length (q .inputs .returns)) (q .inputs .return-rows) (q .return-columns) (r .cells);
-        feeds = feeding (q .metric) (q .inputs) (q .return-columns) n (r .columns) (a .0) (a .1 .0);
+        few = s .1;
+        cells = same-length len rows w (g .1 .1 .0) ∙ ap (λ (i : ℕ). i * w) square;
+        for-rows = ltb-false (room .rows) (2 * (w - 1)) (t .0);
+        for-order = ltb-false (room .order) w (t .1 .0);
+        for-weights = ltb-false (room .weights) w (t .1 .1 .0);
+        for-scratch = ltb-false (room .scratch) least-scratch (t .1 .1 .1 .0);
+        least = omega arith;
+        cut = ltb-false w (q .rule .clusters) (k .1);
+        expects = expecting _ (q .expected-given) (length (q .rule .inputs .expected)) w (x .0) (x .1 .0);
+        limits = g .0;
+        returns = same-length (length (q .rule .inputs .returns)) (q .rule .inputs .return-rows) (q .return-columns) (g .1 .1 .1 .0);
+        feeds = feeding (q .rule .metric) (q .rule .inputs) (q .return-columns) w (h .1 .1 .0) (x .1 .1 .0) (x .1 .1 .1 .0);
       }
 
-  share-said : downOutcome asked room scratch ≡ shareOutcome q cov n rows
-  unfolding shareOutcome
-  share-said = down-as-shares asked room scratch right
+  pub sown : Sown said len w
+  sown = record { some = λ d. judged d .some; few = λ d. judged d .few; cells = λ d. judged d .cells }
 
-  pub share-told : (a : Answer) (o : Outcome) → a ≡ downAnswer (call (q .metric) (q .inputs) (q .expected-given) (q .return-columns) cov n n rows n (q .clusters)) room scratch → o ≡ toldOf a → o ≡ shareOutcome q cov n rows
-  unfolding downAnswer
-  share-told a o g k = k ∙ ap toldOf g ∙ told-as (downOutcome asked room scratch) 1 n ∙ share-said
+-- ---- a buffer and its front
 
-  pub share-laid : (out : List Float) → out ≡ downWeights (call (q .metric) (q .inputs) (q .expected-given) (q .return-columns) cov n n rows n (q .clusters)) room scratch
-      → out ≡ laid pz (shareOutcome q cov n rows) n (weightsIn (sharesOf (q .metric) (q .inputs) cov rows n (q .clusters)))
-  unfolding downWeights
-  share-laid out g = g ∙ rw (share-said, f)
+-- every entry copied over the front
+pub copied : (from to after : List ℕ) (k : ℕ) → after ≡ over (tab k (λ i. getD from i 0)) to → k ≤ length from → length from ≤ k → after ≡ over from to
+copied from to after k e a b =
+    let q : k ≡ length from = omega arith in
+    let t : from ≡ tab (length from) (λ i. getD from i 0) = tab-of (length from) (λ i. getD from i 0) from 0 refl (λ i l. refl) in
+    e ∙ ap (λ (m : ℕ). over (tab m (λ i. getD from i 0)) to) q ∙ ap (λ (l : List ℕ). over l to) (sym t)
 
--- a buffer whose front comes back is as long as it was
-module _ (m : ℕ) (part l : List Float) (h : m ≤ length l) (e : length part ≡ length (take m l)) where
-  pub front-length : length (part ++ drop m l) ≡ length l
-  front-length = simp (length-append, length-drop) (omega (arith, e, length-take-le m l h))
+pub lays-done : (said : Outcome) (room : ℕ) (from blank after : List ℕ) → said ≡ Done → blank ≡ replicate room 0 → after ≡ over from blank → after ≡ laid 0 said room from
+lays-done said room from blank after d b e = e ∙ ap (over from) b ∙ laid-done 0 said room from d
 
-  pub front-enough : (k : ℕ) → k ≤ length l → k ≤ length (part ++ drop m l)
-  front-enough k f = omega (arith, front-length)
+pub lays-refused : (said : Outcome) (k : Refusal) (room : ℕ) (from blank : List ℕ) → said ≡ Refused k → blank ≡ replicate room 0 → blank ≡ laid 0 said room from
+lays-refused said k room from blank h b = b ∙ laid-refused 0 said k room from h
+
+-- ---- the tree
+
+-- in an array of 4,096
+pub area-in : (said : Outcome) (len n room : ℕ) → Sown said len n → said ≡ Done → room ≡ 4096 → n * n ≤ room
+area-in said len n room s done full = omega (arith, square-in n (s .few done))
+
+pub area-word : (said : Outcome) (len n : ℕ) → Sown said len n → said ≡ Done → Word w64 (n * n)
+area-word said len n s done = omega (arith, square-in n (s .few done))
+
+module _ (said : Outcome) (d : Distance) (l : Linkage) (cov : List Float) (n : ℕ) where
+  -- nothing is said of what is refused
+  planted-as : (r : Outcome) (k : Refusal) (tree leaves : List ℕ) → r ≡ Refused k → r ≡ andThen said (orElse (anyLow cov n) NoData Done) → Planted said d l cov n r tree leaves
+  planted-as r k tree leaves h e = record { answer = e; rows-are = λ g. absurd (done-refused k (sym g ∙ h)); order-is = λ g. absurd (done-refused k (sym g ∙ h)) }
+
+  pub planted-refused : (k : Refusal) (tree leaves : List ℕ) → said ≡ Refused k → Planted said d l cov n said tree leaves
+  planted-refused k tree leaves h = planted-as said k tree leaves h (h ∙ sym (then-refused said _ k h))
+
+  module _ (room : ℕ) (a : Answer) (low : Outcome) (s : Sown said (length cov) n) (done : said ≡ Done) (full : room ≡ 4096) (g : a ≡ correlationAnswer cov n n room) (h : low ≡ toldOf a) where
+    told-low : low ≡ correlationOutcome cov n n room
+    unfolding correlationAnswer
+    told-low = h ∙ ap toldOf g ∙ told-as (correlationOutcome cov n n room) n n
+
+    -- the correlations are refused for a variance alone
+    low-said : low ≡ andThen said (orElse (anyLow cov n) NoData Done)
+    unfolding orElse
+    low-said =
+        let some : 0 < n = s .some done in
+        let z : eqb n 0 ≡ false = ne-eqb n 0 (λ q. omega arith) in
+        let q : first (squares (length cov) n n room) ≡ Done = squares-pass n (s .few done) (length cov) room (s .cells done) (area-in said (length cov) n room s done full) in
+        told-low
+        ∙ correlation-squared cov n n room q
+        ∙ ap (λ (t : Bool). orElse t DimensionMismatch (orElse (anyLow cov n) NoData Done)) z
+        ∙ sym (then-done said _ done)
+
+    pub planted-low : (k : Refusal) (tree leaves : List ℕ) → low ≡ Refused k → Planted said d l cov n low tree leaves
+    planted-low k tree leaves f = planted-as low k tree leaves f low-said
+
+    module _ (corr : List Float) (c : corr ≡ correlations cov n n room) (fine : low ≡ Done) where
+      corr-front : take (n * n) corr ≡ correlationsOf cov n
+      unfolding correlations correlationsOf
+      corr-front = laid-front pz _ room (n * n) _ corr c (sym told-low ∙ fine) (length-grid n n (correlationCell cov n))
+
+      pub planted : (a b c : ℕ) (r : Outcome) (tree leaves : List ℕ) (far : List Float) → length corr ≡ 4096 → a ≡ 126 → b ≡ 64 → c ≡ 4096
+          → Arranged Hcaa d l (take (n * n) corr) n n (record { rows = a; order = b; distances = c }) r tree leaves far → Planted said d l cov n low tree leaves
+      unfolding hcaaRows hcaaOrder
+      planted a b c r tree leaves far whole x y z f =
+          let some : 0 < n = s .some done in
+          let few : n ≤ 64 = s .few done in
+          let p : Arrangeable (length (take (n * n) corr)) n n (record { rows = a; order = b; distances = c }) = record {
+            some = some;
+            wide = few;
+            square = refl;
+            cells = length-take-le (n * n) corr (area-in said (length cov) n (length corr) s done whole);
+            for-rows = omega arith;
+            for-order = omega arith;
+            for-distances = omega (arith, square-in n few);
+          } in
+          let f′ : Arranged Hcaa d l (correlationsOf cov n) n n (record { rows = a; order = b; distances = c }) r tree leaves far = rw corr-front at f in
+          let p′ : Arrangeable (length (correlationsOf cov n)) n n (record { rows = a; order = b; distances = c }) = rw corr-front at p in
+          record { answer = low-said; rows-are = λ _. rows-front Hcaa d l _ n _ r tree leaves far p′ f′; order-is = λ _. order-front Hcaa d l _ n _ r tree leaves far p′ f′ }

@@ -1,2 +1,2 @@
 pub mod Hierarchy
-pub mod Steps
+pub mod Inner

@@ -1,6 +1,6 @@
 -- `hcaa::judge` meets its contract. Assumes nothing.
-use Rattle.hcaa.specs.Steps.{judgeTable}
-use Rattle.hcaa.proofs.Judged.{staged}
+use Rattle.hcaa.specs.Inner.{hcaaJudgeTable}
+use Rattle.hcaa.proofs.Stages.{staged}
 use borrow.Author.Needs.{needs}
 use Rattle.hcaa.proofs.judge.Statement.{statement}
 use Rattle.hcaa.proofs.judge.Tie as tie
@@ -21,7 +21,7 @@ and-then-requires-2 : tie.Need-and-then-requires-2
 and-then-requires-2 c κs = search needs
 
 returns : tie.Need-returns
-unfolding judgeTable
+unfolding hcaaJudgeTable
 returns c = staged _ _ _ _ _ _ _ _ (c .before .before .before .before .judge-matrices .ensures) (c .before .before .before .judge-rooms .ensures) (c .before .before .judge-names .ensures) (c .before .and-then .ensures) (c .and-then2 .ensures)
 
 pub judge-spec : {M : Type 1} → statement M

@@ -1,17 +1,24 @@
 -- `hierarchy::allocate_covariance` meets its contract. Assumes nothing.
-use mathlib.Core.Path.{sym, _∙_, refl}
+use mathlib.Core.Path.{refl, sym}
+use native.Mathlib.Omega.{arith}
+use lib.Seq.{length-take-le}
+use Rattle.hierarchy.proofs.Laws.{sown}
+use Rattle.hierarchy.proofs.Answers.{answered-refused, answered-done, passed, rows-in-tree, order-in-leaves, rows-fit, order-fits}
 use borrow.Author.Needs.{needs}
-use Rattle.sharing.specs.Split.{inputs}
-use Rattle.hierarchy.specs.Hierarchy.{rule}
-use Rattle.hierarchy.proofs.Answers.{judged, same-room, judged-as, cleared-as, laid-as, answered-refused, answered-done}
 use Rattle.hierarchy.proofs.allocate_covariance.Statement.{statement}
 use Rattle.hierarchy.proofs.allocate_covariance.Tie as tie
 
 judge-requires : tie.Need-judge-requires
 judge-requires c κs = search needs
 
-clear-all-requires : tie.Need-clear-all-requires
-clear-all-requires c κs = search needs
+slice-aggregate-plant : tie.Need-slice-aggregate-plant
+slice-aggregate-plant c = search needs
+
+slice-aggregate-plant-2 : tie.Need-slice-aggregate-plant-2
+slice-aggregate-plant-2 c = search needs
+
+plant-requires : tie.Need-plant-requires
+plant-requires c κs = (refl, (refl, sown _ _ _ _ _ _ (c .before .before .judge .ensures)))
 
 enum-told : tie.Need-enum-told
 enum-told c = search needs
@@ -19,65 +26,95 @@ enum-told c = search needs
 enum-told-2 : tie.Need-enum-told-2
 enum-told-2 c = search needs
 
+clear-all-requires : tie.Need-clear-all-requires
+clear-all-requires c κs = search needs
+
 same-length : tie.Need-same-length
-same-length c = search needs
+same-length c = c .before .before .before .before .before .before .before .before .clear-all .kept .0
 
 same-length-2 : tie.Need-same-length-2
-same-length-2 c = search needs
+same-length-2 c = c .before .before .before .before .before .before .before .before .clear-all .kept .1 .0
 
 same-length-3 : tie.Need-same-length-3
-same-length-3 c = search needs
+same-length-3 c = c .before .before .before .before .before .before .before .before .clear-all .kept .1 .1 .0
 
 same-length-4 : tie.Need-same-length-4
-same-length-4 c = search needs
+same-length-4 c = c .before .before .before .before .before .before .before .before .clear-all .kept .1 .1 .1 .0
 
 returns : tie.Need-returns
-returns c =
-    let a = c .before .before .before .before .before .before .before .before .before .before .before .before .before .before .before .before .before .before .before .before .before .before .before .args in
-    let q = rule (a .metric) (inputs (a .expected .now) (a .returns .now) (a .return-rows) (a .confidence)) (a .expected-given) (a .return-columns) (a .clusters) in
-    answered-refused q (a .distance) (a .linkage) (a .covariance .now) (a .rows-in) (a .columns) _ _ _ _ _ _ _ (c .before .before .before .before .before .before .before .before .before .before .before .before .before .before .before .judge .ensures) _ (c .enum-told2 .given .1) refl (c .before .before .before .before .before .before .before .before .before .before .clear-all .ensures)
+returns c = answered-refused _ _ _ _ _ _ _ _ _ _ _ (c .before .before .before .before .before .before .before .before .before .before .before .before .before .before .before .before .before .before .before .before .judge .ensures) (c .before .before .before .before .before .before .before .before .before .before .before .before .before .before .before .before .before .plant .ensures) _ _ _ _ _ (c .before .before .before .before .before .before .before .before .before .before .before .before .before .enum-told2 .given .1) (c .before .before .before .before .before .before .before .before .clear-all .ensures)
 
-run-requires : tie.Need-run-requires
-run-requires c κs =
-    let k = c .before .before .before .before .before .before .before .before .before .before .before .before .before .before .clear-all .kept in
-    let r = same-room _ _ _ _ _ _ _ _ (sym (k .0)) (sym (k .1 .0)) (sym (k .1 .1 .0)) (sym (k .1 .1 .1 .0)) in
-    let j = judged _ _ _ _ _ (sym (c .before .before .before .before .before .before .before .before .before .before .before .before .before .before .before .before .before .before .before .judge .ensures) ∙ c .before .before .before .before .enum-told .given .1) in
-    (judged-as _ _ _ _ r (j .0), (j .1, cleared-as _ _ _ _ _ _ r (c .before .before .before .before .before .before .before .before .before .before .before .before .before .before .clear-all .ensures)))
+sub-k : tie.Need-sub-k
+sub-k c = let z = passed _ _ _ _ _ _ _ _ _ _ _ (c .before .before .before .before .before .before .before .judge .ensures) (c .before .before .before .before .plant .ensures) (c .enum-told .given .1) in omega (arith, z .some)
+
+mul-k : tie.Need-mul-k
+mul-k c = let z = passed _ _ _ _ _ _ _ _ _ _ _ (c .before .before .before .before .before .before .before .judge .ensures) (c .before .before .before .before .plant .ensures) (c .enum-told .given .1) in omega (arith, z .few)
+
+array-share-prefix-tree : tie.Need-array-share-prefix-tree
+array-share-prefix-tree c = rows-in-tree _ _ _ _ _ _ _ _ _ _ _ (c .before .before .before .before .before .before .before .judge .ensures) (c .before .before .before .before .plant .ensures) (c .enum-told .given .1) (c .before .before .before .before .plant .kept .1 .1 .1 .1 .1 .0)
+
+slice-aggregate-made : tie.Need-slice-aggregate-made
+slice-aggregate-made c = sym (length-take-le _ _ (array-share-prefix-tree (c .before)))
+
+allocate-down-tree-requires : tie.Need-allocate-down-tree-requires
+allocate-down-tree-requires c κs = search needs
+
+told-requires : tie.Need-told-requires
+told-requires c κs = search needs
+
+lay-requires : tie.Need-lay-requires
+lay-requires c κs = rows-fit _ _ _ _ _ _ _ _ _ _ _ (c .before .before .before .before .before .before .before .before .before .before .before .before .before .before .before .before .before .judge .ensures) (c .before .before .before .before .before .before .before .before .before .before .before .before .before .before .plant .ensures) (c .before .before .before .before .before .before .before .before .before .before .enum-told .given .1) (c .before .before .before .before .before .before .before .before .before .before .before .before .before .before .plant .kept .1 .1 .1 .1 .1 .0)
+
+array-share-prefix-leaves : tie.Need-array-share-prefix-leaves
+array-share-prefix-leaves c = order-in-leaves _ _ _ _ _ _ _ _ _ _ _ (c .before .before .before .before .before .before .before .before .before .before .before .before .before .before .before .before .before .before .before .before .judge .ensures) (c .before .before .before .before .before .before .before .before .before .before .before .before .before .before .before .before .before .plant .ensures) (c .before .before .before .before .before .before .before .before .before .before .before .before .before .enum-told .given .1) (c .before .before .before .before .before .before .before .before .before .before .before .before .before .before .before .before .before .plant .kept .1 .1 .1 .1 .1 .1 .0)
+
+slice-aggregate-lay : tie.Need-slice-aggregate-lay
+slice-aggregate-lay c = sym (length-take-le _ _ (array-share-prefix-leaves (c .before)))
+
+lay-requires-2 : tie.Need-lay-requires-2
+lay-requires-2 c κs = order-fits _ _ _ _ _ _ _ _ _ _ _ (c .before .before .before .before .before .before .before .before .before .before .before .before .before .before .before .before .before .before .before .before .before .before .judge .ensures) (c .before .before .before .before .before .before .before .before .before .before .before .before .before .before .before .before .before .before .before .plant .ensures) (c .before .before .before .before .before .before .before .before .before .before .before .before .before .before .before .enum-told .given .1) (c .before .before .before .before .before .before .before .before .before .before .before .before .before .before .before .before .before .before .before .plant .kept .1 .1 .1 .1 .1 .1 .0)
 
 same-length-5 : tie.Need-same-length-5
-same-length-5 c = search needs
+same-length-5 c = c .before .before .before .before .before .before .before .lay .kept .1 .1 .0
 
 same-length-6 : tie.Need-same-length-6
-same-length-6 c = search needs
+same-length-6 c = c .before .before .lay2 .kept .1 .1 .0
 
 same-length-7 : tie.Need-same-length-7
-same-length-7 c = search needs
+same-length-7 c = c .before .before .before .before .before .before .before .before .before .before .before .before .before .before .allocate-down-tree .kept .1 .1 .1 .1 .1 .1 .1 .1 .1 .1 .1 .1 .1 .0
 
 same-length-8 : tie.Need-same-length-8
-same-length-8 c = search needs
+same-length-8 c = c .before .before .before .before .before .before .before .before .before .before .before .before .before .before .allocate-down-tree .kept .1 .1 .1 .1 .1 .1 .1 .1 .1 .1 .1 .1 .1 .1 .0
 
 returns-2 : tie.Need-returns-2
-returns-2 c =
-    let a = c .before .before .before .before .before .before .before .before .before .before .before .before .before .before .before .before .before .before .before .before .before .before .before .before .before .before .before .before .before .before .before .before .before .before .before .before .args in
-    let q = rule (a .metric) (inputs (a .expected .now) (a .returns .now) (a .return-rows) (a .confidence)) (a .expected-given) (a .return-columns) (a .clusters) in
-    let k = c .before .before .before .before .before .before .before .before .before .before .before .before .before .before .before .before .before .before .before .before .before .before .before .clear-all .kept in
-    let r = same-room _ _ _ _ _ _ _ _ (k .0) (k .1 .0) (k .1 .1 .0) (k .1 .1 .1 .0) in
-    answered-done q (a .distance) (a .linkage) (a .covariance .now) (a .rows-in) (a .columns) _ _ _ _ _ _ _ (c .before .before .before .before .before .before .before .before .before .before .before .before .before .before .before .before .before .before .before .before .before .before .before .before .before .before .before .before .judge .ensures) (c .before .before .before .before .before .before .before .before .before .before .before .before .before .enum-told .given .1) (c .before .before .before .before .before .before .before .before .run .ensures .0) (laid-as _ _ _ _ _ _ r _ _ _ _ _ _ (c .before .before .before .before .before .before .before .before .run .ensures .1))
+returns-2 c = answered-done _ _ _ _ _ _ _ _ _ _ _ (c .before .before .before .before .before .before .before .before .before .before .before .before .before .before .before .before .before .before .before .before .before .before .before .before .before .judge .ensures) (c .before .before .before .before .before .before .before .before .before .before .before .before .before .before .before .before .before .before .before .before .before .before .plant .ensures) (c .before .before .before .before .before .before .before .before .before .before .before .before .before .before .before .before .before .before .enum-told .given .1) _ _ _ _ _ _ (c .before .before .before .before .before .before .before .before .before .before .before .before .before .before .allocate-down-tree .ensures .0) (c .before .before .before .before .before .before .before .before .before .told .ensures) (c .before .before .before .before .before .before .before .before .before .before .before .before .before .before .allocate-down-tree .ensures .1 .0) (c .before .before .before .before .before .before .before .before .before .before .before .before .before .before .allocate-down-tree .ensures .1 .1) (c .before .before .before .before .before .before .before .lay .ensures) (c .before .before .lay2 .ensures)
 
 pub allocate-covariance-spec : {M : Type 1} → statement M
 allocate-covariance-spec =
     tie.close
     (tie.spec
     judge-requires
-    clear-all-requires
+    slice-aggregate-plant
+    slice-aggregate-plant-2
+    plant-requires
     enum-told
     enum-told-2
+    clear-all-requires
     same-length
     same-length-2
     same-length-3
     same-length-4
     returns
-    run-requires
+    sub-k
+    mul-k
+    array-share-prefix-tree
+    slice-aggregate-made
+    allocate-down-tree-requires
+    told-requires
+    lay-requires
+    array-share-prefix-leaves
+    slice-aggregate-lay
+    lay-requires-2
     same-length-5
     same-length-6
     same-length-7

@@ -1,15 +1,10 @@
 -- `hierarchy::plant` meets its contract. Assumes nothing.
+use mathlib.Core.Path.{refl, sym}
+use lib.Seq.{length-take-le}
+use Rattle.hierarchy.proofs.Laws.{area-in, area-word, planted-refused, planted-low, planted}
 use borrow.Author.Needs.{needs}
-use Rattle.parity.proofs.Laws.{low-said, correlations-exact}
-use Rattle.hierarchy.proofs.Answers.{planted-low, planted}
 use Rattle.hierarchy.proofs.plant.Statement.{statement}
 use Rattle.hierarchy.proofs.plant.Tie as tie
-
-cov2corr-requires : tie.Need-cov2corr-requires
-cov2corr-requires c κs = search needs
-
-told-requires : tie.Need-told-requires
-told-requires c κs = search needs
 
 enum-told : tie.Need-enum-told
 enum-told c = search needs
@@ -17,52 +12,69 @@ enum-told c = search needs
 enum-told-2 : tie.Need-enum-told-2
 enum-told-2 c = search needs
 
-same-length : tie.Need-same-length
-same-length c = search needs
-
 returns : tie.Need-returns
-returns c =
-    let s = c .before .before .before .before .before .before .before .before .before .before .before in
-    let a = s .args in
-    let p = s .pre in
-    planted-low (a .distance) (a .linkage) (a .cov .now) (a .n) _ _ _ (low-said (a .n) (p .0) (a .cov .now) _ _ _ (p .1 .0) (p .1 .1 .0) (c .before .before .before .before .before .cov2corr .ensures .0) (c .before .before .told .ensures)) _ (c .enum-told2 .given .1)
+returns c = planted-refused _ _ _ _ _ _ _ _ (c .enum-told2 .given .1)
 
-grow-requires : tie.Need-grow-requires
-grow-requires c κs = search needs
+slice-aggregate-cov2corr : tie.Need-slice-aggregate-cov2corr
+slice-aggregate-cov2corr c = search needs
 
-same-length-2 : tie.Need-same-length-2
-same-length-2 c = search needs
+cov2corr-requires : tie.Need-cov2corr-requires
+cov2corr-requires c κs = search needs
 
-same-length-3 : tie.Need-same-length-3
-same-length-3 c = search needs
+told-requires : tie.Need-told-requires
+told-requires c κs = search needs
 
-same-length-4 : tie.Need-same-length-4
-same-length-4 c = search needs
+enum-told-3 : tie.Need-enum-told-3
+enum-told-3 c = search needs
+
+enum-told-4 : tie.Need-enum-told-4
+enum-told-4 c = search needs
 
 returns-2 : tie.Need-returns-2
-returns-2 c =
-    let s = c .before .before .before .before .before .before .before .before .before .before .before .before .before .before .before .before .before .before .before .before .before in
-    let a = s .args in
-    let p = s .pre in
-    let m = c .before .before .before .before .before .before .before .before .before .before .before .before .before .before .before .cov2corr .ensures in
-    let t = c .before .before .before .before .before .before .before .before .before .before .before .before .told .ensures in
-    let d = c .before .before .before .before .before .before .before .before .before .before .enum-told .given .1 in
-    let e = low-said (a .n) (p .0) (a .cov .now) _ _ _ (p .1 .0) (p .1 .1 .0) (m .0) t in
-    let k = correlations-exact (a .n) (p .0) (a .cov .now) _ _ _ _ (p .1 .1 .0) (m .0) t d (m .1) in
-    planted (a .distance) (a .linkage) (a .cov .now) (a .n) _ _ _ e _ k (c .before .before .before .before .before .before .grow .ensures)
+returns-2 c = planted-low _ _ _ _ _ _ _ _ (c .before .before .before .before .before .before .before .before .before .before .before .pre .1 .1) (c .before .before .before .before .before .before .enum-told .given .1) refl (c .before .before .before .before .cov2corr .ensures .0) (c .before .before .told .ensures) _ _ _ (c .enum-told4 .given .1)
+
+mul-m : tie.Need-mul-m
+mul-m c = area-word _ _ _ (c .before .before .before .before .before .before .before .before .before .before .before .pre .1 .1) (c .before .before .before .before .before .before .enum-told .given .1)
+
+array-share-prefix-corr : tie.Need-array-share-prefix-corr
+array-share-prefix-corr c = area-in _ _ _ _ (c .before .before .before .before .before .before .before .before .before .before .before .pre .1 .1) (c .before .before .before .before .before .before .enum-told .given .1) (c .before .before .before .before .cov2corr .kept .1 .1 .1 .0)
+
+slice-aggregate-arrange : tie.Need-slice-aggregate-arrange
+slice-aggregate-arrange c = sym (length-take-le _ _ (array-share-prefix-corr (c .before)))
+
+slice-aggregate-arrange-2 : tie.Need-slice-aggregate-arrange-2
+slice-aggregate-arrange-2 c = search needs
+
+arrange-requires : tie.Need-arrange-requires
+arrange-requires c κs = search needs
+
+same-length : tie.Need-same-length
+same-length c = c .before .before .before .before .before .arrange .kept .1 .1 .1 .1 .1 .1 .0
+
+same-length-2 : tie.Need-same-length-2
+same-length-2 c = c .before .before .before .before .before .arrange .kept .1 .1 .1 .1 .1 .1 .1 .0
+
+returns-3 : tie.Need-returns-3
+returns-3 c = planted _ _ _ _ _ _ _ _ (c .before .before .before .before .before .before .before .before .before .before .before .before .before .before .before .before .before .before .before .before .before .pre .1 .1) (c .before .before .before .before .before .before .before .before .before .before .before .before .before .before .before .before .enum-told .given .1) refl (c .before .before .before .before .before .before .before .before .before .before .before .before .before .before .cov2corr .ensures .0) (c .before .before .before .before .before .before .before .before .before .before .before .before .told .ensures) _ (c .before .before .before .before .before .before .before .before .before .before .before .before .before .before .cov2corr .ensures .1) (c .before .before .before .before .before .before .before .before .before .before .enum-told3 .given .1) _ _ _ _ _ _ _ (c .before .before .before .before .before .before .before .before .before .before .before .before .before .before .cov2corr .kept .1 .1 .1 .0) (c .before .before .before .before .before .before .before .before .before .before .before .before .before .before .before .before .before .before .before .before .before .pre .0) (c .before .before .before .before .before .before .before .before .before .before .before .before .before .before .before .before .before .before .before .before .before .pre .1 .0) refl (c .before .before .before .before .before .arrange .ensures)
 
 pub plant-spec : {M : Type 1} → statement M
 plant-spec =
     tie.close
     (tie.spec
-    cov2corr-requires
-    told-requires
     enum-told
     enum-told-2
-    same-length
     returns
-    grow-requires
+    slice-aggregate-cov2corr
+    cov2corr-requires
+    told-requires
+    enum-told-3
+    enum-told-4
+    returns-2
+    mul-m
+    array-share-prefix-corr
+    slice-aggregate-arrange
+    slice-aggregate-arrange-2
+    arrange-requires
+    same-length
     same-length-2
-    same-length-3
-    same-length-4
-    returns-2)
+    returns-3)

@@ -1,0 +1,41 @@
+-- `admission::judge_shape` meets its contract. Assumes nothing.
+use borrow.Author.Needs.{needs}
+use Rattle.refusal.proofs.Tables.{table, table-end}
+use Rattle.sharing.specs.Down.{otherRows}
+use Rattle.admission.specs.Admission.{hierarchyShapeLines}
+use Rattle.admission.proofs.judge_shape.Statement.{statement}
+use Rattle.admission.proofs.judge_shape.Tie as tie
+
+is-tail-risk-requires : tie.Need-is-tail-risk-requires
+is-tail-risk-requires c κs = search needs
+
+both-requires : tie.Need-both-requires
+both-requires c κs = search needs
+
+both-requires-2 : tie.Need-both-requires-2
+both-requires-2 c κs = search needs
+
+refuse-requires : tie.Need-refuse-requires
+refuse-requires c κs = search needs
+
+refuse-requires-2 : tie.Need-refuse-requires-2
+refuse-requires-2 c κs = search needs
+
+refuse-requires-3 : tie.Need-refuse-requires-3
+refuse-requires-3 c κs = search needs
+
+returns : tie.Need-returns
+unfolding hierarchyShapeLines otherRows
+returns c e xs q g k = simp (table, table-end) (rw (c .refuse3 .ensures, c .before .refuse2 .ensures, c .before .before .refuse .ensures, c .before .before .before .both2 .ensures, c .before .before .before .before .both .ensures, c .before .before .before .before .before .is-tail-risk .ensures))
+
+pub judge-shape-spec : {M : Type 1} → statement M
+judge-shape-spec =
+    tie.close
+    (tie.spec
+    is-tail-risk-requires
+    both-requires
+    both-requires-2
+    refuse-requires
+    refuse-requires-2
+    refuse-requires-3
+    returns)
