@@ -13,7 +13,7 @@ use lib.Seq.{drop-cons}
 use lib.Ieee.{Float, binary64, ofBits}
 use Rattle.fields.specs.Split.{all}
 use Rattle.fields.specs.Numerals.{digit, inBase, number, isCell, cellOf, cellRead, isNumeral, numeralRead}
-use Rattle.fields.specs.Spelling.{spelledAfter}
+use Rattle.fields.specs.Inner.{spelledAfter}
 use Rattle.fields.specs.declared.Cell.{Cell}
 use Rattle.fields.specs.declared.Numeral.{Numeral}
 use Rattle.fields.specs.declared.Numeral.the-variants.{Malformed, Of}

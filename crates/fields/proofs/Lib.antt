@@ -1,3 +1,4 @@
 pub mod Every
 pub mod Pieces
 pub mod Digits
+pub mod Tellings

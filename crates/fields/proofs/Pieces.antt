@@ -11,33 +11,33 @@ use borrow.Author.Tests.{eq-eqb, ne-eqb}
 use lib.Dec.{eqb}
 use lib.ListN.{length, getD, take, drop, length-drop, drop-of-length-le}
 use lib.Seq.{drop-cons, drop-drop, length-take-le}
-use Rattle.fields.specs.Split.{onto, split, upto, piece, endOf}
+use Rattle.fields.specs.Split.{onto, split, firstPiece, piece, endOf}
 
 -- ---- the first piece
 
-upto-here : (d b : ℕ) (s : List ℕ) → b ≡ d → upto d (b ∷ s) ≡ []
-unfolding upto
+upto-here : (d b : ℕ) (s : List ℕ) → b ≡ d → firstPiece d (b ∷ s) ≡ []
+unfolding firstPiece
 upto-here d b s e = simp (eq-eqb b d e)
 
-upto-on : (d b : ℕ) (s : List ℕ) → (b ≡ d → ⊥) → upto d (b ∷ s) ≡ b ∷ upto d s
-unfolding upto
+upto-on : (d b : ℕ) (s : List ℕ) → (b ≡ d → ⊥) → firstPiece d (b ∷ s) ≡ b ∷ firstPiece d s
+unfolding firstPiece
 upto-on d b s e = simp (ne-eqb b d e)
 
-pub upto-le : (d : ℕ) (s : List ℕ) → length (upto d s) ≤ length s
-unfolding upto
+pub upto-le : (d : ℕ) (s : List ℕ) → length (firstPiece d s) ≤ length s
+unfolding firstPiece
 upto-le d [] = omega arith
 upto-le d (b ∷ s) = go (eqb b d) (upto-le d s)
   where
-    go : (t : Bool) → length (upto d s) ≤ length s → length (cond t [] (b ∷ upto d s)) ≤ suc (length s)
+    go : (t : Bool) → length (firstPiece d s) ≤ length s → length (cond t [] (b ∷ firstPiece d s)) ≤ suc (length s)
     go true ih = omega arith
     go false ih = omega arith
 
-pub take-upto : (d : ℕ) (s : List ℕ) → take (length (upto d s)) s ≡ upto d s
-unfolding upto
+pub take-upto : (d : ℕ) (s : List ℕ) → take (length (firstPiece d s)) s ≡ firstPiece d s
+unfolding firstPiece
 take-upto d [] = refl
 take-upto d (b ∷ s) = go (eqb b d) (take-upto d s)
   where
-    go : (t : Bool) → take (length (upto d s)) s ≡ upto d s → take (length (cond t [] (b ∷ upto d s))) (b ∷ s) ≡ cond t [] (b ∷ upto d s)
+    go : (t : Bool) → take (length (firstPiece d s)) s ≡ firstPiece d s → take (length (cond t [] (b ∷ firstPiece d s))) (b ∷ s) ≡ cond t [] (b ∷ firstPiece d s)
     go true ih = refl
     go false ih = ap (λ (l : List ℕ). b ∷ l) ih
 
@@ -67,32 +67,32 @@ pieces d (b ∷ s) = go (eqb b d) (pieces d s)
     go false ih = omega (arith, length-onto b (split d s))
 
 -- where the first piece is all, it is the only one
-pub split-none : (d : ℕ) (s : List ℕ) → length s ≤ length (upto d s) → split d s ≡ upto d s ∷ []
-unfolding split upto onto
+pub split-none : (d : ℕ) (s : List ℕ) → length s ≤ length (firstPiece d s) → split d s ≡ firstPiece d s ∷ []
+unfolding split firstPiece onto
 split-none d [] h = refl
 split-none d (b ∷ s) h = go (eqb b d) (split-none d s) h
   where
-    go : (t : Bool) → (length s ≤ length (upto d s) → split d s ≡ upto d s ∷ []) → suc (length s) ≤ length (cond t [] (b ∷ upto d s))
-        → cond t ([] ∷ split d s) (onto b (split d s)) ≡ cond t [] (b ∷ upto d s) ∷ []
+    go : (t : Bool) → (length s ≤ length (firstPiece d s) → split d s ≡ firstPiece d s ∷ []) → suc (length s) ≤ length (cond t [] (b ∷ firstPiece d s))
+        → cond t ([] ∷ split d s) (onto b (split d s)) ≡ cond t [] (b ∷ firstPiece d s) ∷ []
     go true ih h = absurd (omega arith)
     go false ih h = ap (onto b) (ih (omega arith))
 
 -- else the others are those of what stands after the d
-pub split-found : (d : ℕ) (s : List ℕ) → length (upto d s) < length s → split d s ≡ upto d s ∷ split d (drop (suc (length (upto d s))) s)
-unfolding split upto onto
+pub split-found : (d : ℕ) (s : List ℕ) → length (firstPiece d s) < length s → split d s ≡ firstPiece d s ∷ split d (drop (suc (length (firstPiece d s))) s)
+unfolding split firstPiece onto
 split-found d [] h = absurd (omega arith)
 split-found d (b ∷ s) h = go (eqb b d) (split-found d s) h
   where
-    go : (t : Bool) → (length (upto d s) < length s → split d s ≡ upto d s ∷ split d (drop (suc (length (upto d s))) s)) → length (cond t [] (b ∷ upto d s)) < suc (length s)
-        → cond t ([] ∷ split d s) (onto b (split d s)) ≡ cond t [] (b ∷ upto d s) ∷ split d (drop (suc (length (cond t [] (b ∷ upto d s)))) (b ∷ s))
+    go : (t : Bool) → (length (firstPiece d s) < length s → split d s ≡ firstPiece d s ∷ split d (drop (suc (length (firstPiece d s))) s)) → length (cond t [] (b ∷ firstPiece d s)) < suc (length s)
+        → cond t ([] ∷ split d s) (onto b (split d s)) ≡ cond t [] (b ∷ firstPiece d s) ∷ split d (drop (suc (length (cond t [] (b ∷ firstPiece d s)))) (b ∷ s))
     go true ih h = refl
     go false ih h = ap (onto b) (ih (omega arith))
 
 -- either way it is the first
-pub piece-upto : (d : ℕ) (s : List ℕ) → piece d s 0 ≡ upto d s
-piece-upto d s = go (decLe (length s) (length (upto d s)))
+pub piece-upto : (d : ℕ) (s : List ℕ) → piece d s 0 ≡ firstPiece d s
+piece-upto d s = go (decLe (length s) (length (firstPiece d s)))
   where
-    go : Dec (length s ≤ length (upto d s)) → piece d s 0 ≡ upto d s
+    go : Dec (length s ≤ length (firstPiece d s)) → piece d s 0 ≡ firstPiece d s
     go (yes h) = rw (split-none d s h)
     go (no h) = rw (split-found d s (lt-of-not-le h))
 
@@ -101,15 +101,15 @@ piece-upto d s = go (decLe (length s) (length (upto d s)))
 module _ (d : ℕ) (s : List ℕ) (i : ℕ) where
   pub end-here : i < length s → getD s i 0 ≡ d → endOf d s i ≡ i
   unfolding endOf
-  end-here h e = omega (arith, ap length (ap (upto d) (drop-cons s i 0 h) ∙ upto-here d (getD s i 0) (drop (suc i) s) e))
+  end-here h e = omega (arith, ap length (ap (firstPiece d) (drop-cons s i 0 h) ∙ upto-here d (getD s i 0) (drop (suc i) s) e))
 
   pub end-on : i < length s → (getD s i 0 ≡ d → ⊥) → endOf d s i ≡ endOf d s (i + 1)
   unfolding endOf
-  end-on h e = rw add-one (omega (arith, ap length (ap (upto d) (drop-cons s i 0 h) ∙ upto-on d (getD s i 0) (drop (suc i) s) e)))
+  end-on h e = rw add-one (omega (arith, ap length (ap (firstPiece d) (drop-cons s i 0 h) ∙ upto-on d (getD s i 0) (drop (suc i) s) e)))
 
   pub end-past : length s ≤ i → endOf d s i ≡ i
-  unfolding endOf upto
-  end-past h = omega (arith, ap length (ap (upto d) (drop-of-length-le s h)))
+  unfolding endOf firstPiece
+  end-past h = omega (arith, ap length (ap (firstPiece d) (drop-of-length-le s h)))
 
   -- ---- a count of d's, at place i
 
@@ -138,21 +138,21 @@ module _ (d : ℕ) (s : List ℕ) (at : ℕ) (in-s : at ≤ length s) where
   end-ge = omega arith
 
   -- what the code cuts out is the first piece
-  pub cut-first : take (endOf d s at - at) (drop at s) ≡ upto d (drop at s)
+  pub cut-first : take (endOf d s at - at) (drop at s) ≡ firstPiece d (drop at s)
   unfolding endOf
   cut-first = rw add-sub-cancel-left (take-upto d (drop at s))
 
   -- where no d is found, that is the last piece
-  pub last-piece : length s ≤ endOf d s at → split d (drop at s) ≡ upto d (drop at s) ∷ []
+  pub last-piece : length s ≤ endOf d s at → split d (drop at s) ≡ firstPiece d (drop at s) ∷ []
   unfolding endOf
   last-piece h = split-none d (drop at s) (omega (arith, left))
 
   -- else the next begins after the d
-  pub next-pieces : endOf d s at < length s → split d (drop at s) ≡ upto d (drop at s) ∷ split d (drop (endOf d s at + 1) s)
+  pub next-pieces : endOf d s at < length s → split d (drop at s) ≡ firstPiece d (drop at s) ∷ split d (drop (endOf d s at + 1) s)
   unfolding endOf
   next-pieces h =
-      let l : length (upto d (drop at s)) < length (drop at s) = omega (arith, left) in
-      let f : at + suc (length (upto d (drop at s))) ≡ at + length (upto d (drop at s)) + 1 = omega arith in
+      let l : length (firstPiece d (drop at s)) < length (drop at s) = omega (arith, left) in
+      let f : at + suc (length (firstPiece d (drop at s))) ≡ at + length (firstPiece d (drop at s)) + 1 = omega arith in
       rw (split-found d (drop at s) l, drop-drop, f)
 
   -- piece k - j from here
@@ -161,7 +161,7 @@ module _ (d : ℕ) (s : List ℕ) (at : ℕ) (in-s : at ≤ length s) where
       let h : length s ≤ endOf d s at = omega arith in
       rw (last-piece h) (go (k - j) (omega arith))
     where
-      go : (m : ℕ) → 0 < m → getD (upto d (drop at s) ∷ []) m [] ≡ []
+      go : (m : ℕ) → 0 < m → getD (firstPiece d (drop at s) ∷ []) m [] ≡ []
       go zero h = absurd (omega arith)
       go (suc m) h = refl
 
@@ -173,7 +173,7 @@ module _ (d : ℕ) (s : List ℕ) (at : ℕ) (in-s : at ≤ length s) where
 
 -- ---- the first piece, cut from the front
 
-pub cut-front : (d : ℕ) (s : List ℕ) → take (endOf d s 0) s ≡ upto d s
+pub cut-front : (d : ℕ) (s : List ℕ) → take (endOf d s 0) s ≡ firstPiece d s
 unfolding endOf
 cut-front d s = rw zero-add (take-upto d s)
 

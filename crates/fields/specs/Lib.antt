@@ -1,3 +1,3 @@
 pub mod Split
 pub mod Numerals
-pub mod Spelling
+pub mod Inner

@@ -1,10 +1,14 @@
 -- Numerals in bases 10 and 16. Definitions only.
 use Prim.Native.Nat.{ℕ, _+_, _*_, _-_}
-use mathlib.Core.Bool.{Bool, cond, _&&_}
+use mathlib.Core.Bool.{Bool, not, cond, _&&_}
 use mathlib.Core.List.{List, [], _∷_}
 use lib.Dec.{leb, ltb, eqb}
 use lib.ListN.{length}
 use lib.Ieee.{Float, binary64, ofBits}
+use Rattle.refusal.specs.Table.{first}
+use Rattle.refusal.specs.Telling.{Telling, accepts, refuses}
+use Rattle.refusal.specs.declared.Refusal.the-variants.{MalformedText}
+use Rattle.refusal.specs.declared.Outcome.{Outcome}
 use Rattle.fields.specs.Split.{all}
 use Rattle.fields.specs.declared.Cell.{Cell}
 use Rattle.fields.specs.declared.Cell.the-variants as cell
@@ -46,3 +50,21 @@ isNumeral w = leb 1 (length w) && (leb (length w) 9 && all (inBase 10) w)
 unfoldable pub numeralRead : List ℕ → Numeral
 unfolding isNumeral number
 numeralRead w = cond (isNumeral w) (numeral.Of (number 10 0 w)) numeral.Malformed
+
+-- ---- what the answers tell: a field that is no cell, or no numeral, is in a "job text" that "is malformed" (15)
+
+unfoldable pub cellOutcome : List ℕ → Outcome
+unfolding isCell
+cellOutcome w = first ((not (isCell w), MalformedText) ∷ [])
+
+abbrev pub cellTells : Cell → Telling Float
+cellTells (cell.Of x) = accepts x
+cellTells cell.Malformed = refuses MalformedText
+
+unfoldable pub numeralOutcome : List ℕ → Outcome
+unfolding isNumeral
+numeralOutcome w = first ((not (isNumeral w), MalformedText) ∷ [])
+
+abbrev pub numeralTells : Numeral → Telling ℕ
+numeralTells (numeral.Of n) = accepts n
+numeralTells numeral.Malformed = refuses MalformedText

@@ -5,6 +5,12 @@ use mathlib.Core.List.{List, [], _∷_}
 use lib.Dec.{eqb}
 use lib.ListN.{length, drop, getD}
 
+abbrev pub newline : ℕ
+newline = 10
+
+abbrev pub tabulator : ℕ
+tabulator = 9
+
 -- b put in front of the first piece
 unfoldable pub onto : ℕ → List (List ℕ) → List (List ℕ)
 onto b [] = []
@@ -21,14 +27,14 @@ abbrev pub piece : ℕ → List ℕ → ℕ → List ℕ
 piece d s k = getD (split d s) k []
 
 -- the first piece
-unfoldable pub upto : ℕ → List ℕ → List ℕ
-upto d [] = []
-upto d (b ∷ s) = cond (eqb b d) [] (b ∷ upto d s)
+unfoldable pub firstPiece : ℕ → List ℕ → List ℕ
+firstPiece d [] = []
+firstPiece d (b ∷ s) = cond (eqb b d) [] (b ∷ firstPiece d s)
 
 -- the place of the first d from a place on, or the end
 unfoldable pub endOf : ℕ → List ℕ → ℕ → ℕ
-unfolding upto
-endOf d s from = from + length (upto d (drop from s))
+unfolding firstPiece
+endOf d s from = from + length (firstPiece d (drop from s))
 
 -- every entry passes the test
 unfoldable pub all : {A : Type 0} → (A → Bool) → List A → Bool

@@ -3,11 +3,9 @@
 ghost use mathlib.Core.Path.{_≡_};
 ghost use Prim.Native.Nat.{_-_, _≤_};
 ghost use lib.ListN.{length};
-ghost use Rattle.fields.specs.Split.{split, endOf};
-ghost use Rattle.fields.specs.Split.{piece as pieceOf};
-ghost use Rattle.fields.specs.Numerals.{cellRead, numeralRead};
-ghost use Rattle.fields.specs.Numerals.{digit as digitOf};
-ghost use Rattle.fields.specs.Spelling.{spelledAfter};
+ghost use Rattle.fields.specs.Split.{split, endOf, piece as pieceOf};
+ghost use Rattle.fields.specs.Numerals.{cellRead, numeralRead, digit as digitOf};
+ghost use Rattle.fields.specs.Inner.{spelledAfter};
 
 pub enum Cell {
     Malformed,

@@ -3,3 +3,4 @@ pub mod Whole
 pub mod Lists
 pub mod Meaning
 pub mod Figures
+pub mod Tellings

@@ -10,7 +10,7 @@ use lib.Dec.{eqb, lit<, lit≤}
 use lib.Pow.{pow-pos, pow-mono, shr-shr, shl-shr}
 use lib.Ieee.{Float, nan, inf, fin, binary64, odd, ofFields}
 use lib.Ieee.Exact.{HasValue, odd-sign}
-use Rattle.arithmetic.specs.Pattern.{worthAt}
+use Rattle.arithmetic.specs.Inner.{worthAt}
 use Rattle.arithmetic.proofs.Units.{units-are}
 use Rattle.refusal.specs.declared.Refusal.the-variants.{WeightOutOfRange}
 use Rattle.millionths.specs.Millionths.{inMillionths, millionthsOf}

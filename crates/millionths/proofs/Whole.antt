@@ -9,7 +9,7 @@ use borrow.Author.Tests.{le-leb, lt-leb}
 use lib.Dec.{T, leb}
 use lib.Ieee.{Float, binary64, fits, ofFields, ofBits, toBits}
 use lib.Ieee.Bits.{ofBits-toBits, toBits-lt}
-use Rattle.arithmetic.specs.Pattern.{worthAt, worth}
+use Rattle.arithmetic.specs.Inner.{worthAt, worth}
 use Rattle.refusal.specs.declared.Refusal.the-variants.{WeightOutOfRange}
 use Rattle.millionths.specs.Millionths.{inMillionths, millionthsOf}
 use Rattle.millionths.specs.declared.Parts.the-variants.{Of, Refused}

@@ -7,6 +7,7 @@ use lib.ListN.{length, getD}
 use lib.Ieee.{Float, nan, inf, fin}
 use Rattle.arithmetic.specs.Exact.{unitsOf}
 use Rattle.refusal.specs.Table.{Line, first}
+use Rattle.refusal.specs.Telling.{Telling, accepts, refuses}
 use Rattle.refusal.specs.declared.Refusal.the-variants.{OverLimit, ShortBuffer, WeightOutOfRange}
 use Rattle.refusal.specs.declared.Outcome.{Outcome}
 use Rattle.lent.specs.Grid.{tab}
@@ -28,6 +29,7 @@ millionthsOf nan = parts.Refused WeightOutOfRange
 millionthsOf (inf s) = parts.Refused WeightOutOfRange
 millionthsOf (fin s m e) = inMillionths s (unitsOf (fin s m e))
 
+-- the number; one that is refused has none, and 0 stands where it is never read
 abbrev pub partOf : Parts → ℕ
 partOf (parts.Of m) = m
 partOf (parts.Refused r) = 0
@@ -39,6 +41,16 @@ isOf (parts.Refused r) = false
 unfoldable pub inRange : Float → Bool
 unfolding millionthsOf
 inRange w = isOf (millionthsOf w)
+
+-- ---- what the answer tells: 0 and the millionths, or 13
+
+unfoldable pub weightOutcome : Float → Outcome
+unfolding inRange
+weightOutcome w = first ((not (inRange w), WeightOutOfRange) ∷ [])
+
+abbrev pub partsTells : Parts → Telling ℕ
+partsTells (parts.Of m) = accepts m
+partsTells (parts.Refused r) = refuses r
 
 -- ---- a list of weights: 9, 11, 13
 

@@ -5,7 +5,7 @@ use refusal::Refusal;
 ghost use mathlib.Core.Path.{_≡_};
 ghost use Prim.Native.Nat.{_*_, _/_, _^_, _≤_, _<_};
 ghost use lib.ListN.{length};
-ghost use Rattle.arithmetic.specs.Pattern.{worth};
+ghost use Rattle.arithmetic.specs.Inner.{worth};
 ghost use Rattle.lent.specs.Grid.{over};
 ghost use Rattle.fields.specs.Split.{all};
 ghost use Rattle.millionths.specs.Millionths.{millionthsOf, partOf, inRange, millionthsOutcome, millionthsIn, millionthsLaid};
@@ -56,7 +56,7 @@ pub fn millionths(w: f64) -> Parts
 }
 
 // The millionths of a weight that is not refused, else 0.
-pub fn part(w: f64) -> usize
+fn part(w: f64) -> usize
     ensures { λ r. ⌜ r ≡ partOf (millionthsOf w) ⌝ }
 {
     match millionths(w) {
@@ -116,7 +116,7 @@ pub fn weights_in_millionths(weights: &[f64], out: &mut [usize]) -> Outcome
     ensures { λ r. ⌜ now (out .exit) ≡ millionthsLaid (now (weights .entry)) (length (now (out .entry))) ⌝ }
 {
     let said = judge(weights, out.len());
-    lent::clear_numbers(out);
+    lent::clear_numbers_from(out, 0);
     let Outcome::Done = said else {
         return said;
     };

@@ -17,7 +17,7 @@ use Rattle.refusal.specs.declared.Outcome.{Outcome}
 use Rattle.refusal.specs.declared.Outcome.the-variants as outcome
 use Rattle.lent.proofs.Laws.{either, getD-tab}
 use Rattle.text.specs.Bytes.{bytes, same}
-use Rattle.fields.specs.Split.{split, upto, all}
+use Rattle.fields.specs.Split.{split, firstPiece, all}
 use Rattle.fields.specs.Numerals.{isCell}
 use Rattle.fields.proofs.Every.{three-yes, four-yes, all-at}
 use Rattle.fields.proofs.Pieces.{piece-upto}
@@ -29,7 +29,7 @@ use Rattle.linkage.specs.declared.NamedLinkage.{NamedLinkage}
 use Rattle.linkage.specs.declared.NamedDistance.the-variants as distance
 use Rattle.linkage.specs.declared.NamedLinkage.the-variants as linkage
 use Rattle.reading.specs.Reading.{lines, rest, line, field, fieldsIn, assets, clustersOf, wellAsked, isHrp, isHcaa, inName, isName, isAsset, isJob, nameOf, startOf, startsIn, textLines, readOutcome, hrpRead, hcaaRead, jobIn, readAs, readOf}
-use Rattle.reading.specs.Walk.{isBody}
+use Rattle.reading.specs.Inner.{isBody}
 use Rattle.reading.specs.declared.Reading.{Reading}
 use Rattle.reading.specs.declared.Reading.the-variants as reading
 use Rattle.reading.proofs.Lines.{line-at, line-is}
@@ -94,9 +94,9 @@ module _ (text : List ℕ) (job : isJob text ≡ true) where
         (leb-true 1 (length w) (y .0), leb-true (length w) 16 (y .1))
 
     -- `name` finds it where the line begins ..
-    pub name-at : upto 9 (upto 10 (drop (startOf text (i + 1)) text)) ≡ nameOf text i
+    pub name-at : firstPiece 9 (firstPiece 10 (drop (startOf text (i + 1)) text)) ≡ nameOf text i
     unfolding nameOf
-    name-at = ap (upto 9) (sym (line-at text (i + 1) (omega (arith, cut)))) ∙ sym (piece-upto 9 (line text (i + 1)))
+    name-at = ap (firstPiece 9) (sym (line-at text (i + 1) (omega (arith, cut)))) ∙ sym (piece-upto 9 (line text (i + 1)))
 
     -- .. which the lent numbers hold
     pub start-kept : getD (startsIn text) i 0 ≡ startOf text (i + 1)

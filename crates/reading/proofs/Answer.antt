@@ -14,7 +14,7 @@ use Rattle.refusal.specs.declared.Outcome.the-variants as outcome
 use Rattle.lent.specs.Grid.{zeros, noughts}
 use Rattle.lent.proofs.Sizes.{laid-done, laid-refused}
 use Rattle.reading.specs.Reading.{covarianceIn, startsIn, textLines, readTable, readOutcome, jobIn, readAs, readOf, covarianceLaid, startsLaid}
-use Rattle.reading.specs.Walk.{sizeLines, TextRead}
+use Rattle.reading.specs.Inner.{textSizeLines, TextRead}
 use Rattle.reading.specs.declared.Reading.{Reading}
 use Rattle.reading.specs.declared.Reading.the-variants as reading
 use Rattle.reading.proofs.Whole.{done-job, kept}
@@ -25,8 +25,8 @@ pub record Fits (bytes cells places : ℕ) : Type 0 where
   pub roomy : 4096 ≤ cells
   pub placed : 64 ≤ places
 
-pub sizes-fit : (bytes cells places : ℕ) → first (sizeLines bytes cells places) ≡ outcome.Done → Fits bytes cells places
-unfolding sizeLines
+pub sizes-fit : (bytes cells places : ℕ) → first (textSizeLines bytes cells places) ≡ outcome.Done → Fits bytes cells places
+unfolding textSizeLines
 sizes-fit bytes cells places e =
     let a = none _ e in
     record { short = ltb-false 65536 bytes (a .0); roomy = ltb-false cells 4096 (a .1 .0); placed = ltb-false places 64 (a .1 .1 .0) }
@@ -43,23 +43,23 @@ done-is outcome.Done j h = refl
 done-is (outcome.Refused r) j h = absurd (h r refl)
 
 module _ (text : List ℕ) (cells places : ℕ) where
-  table-is : readTable text cells places ≡ sizeLines (length text) cells places ++ textLines text
-  unfolding readTable sizeLines
+  table-is : readTable text cells places ≡ textSizeLines (length text) cells places ++ textLines text
+  unfolding readTable textSizeLines
   table-is = refl
 
-  pub outcome-refused : (r : Refusal) → first (sizeLines (length text) cells places) ≡ outcome.Refused r → readOutcome text cells places ≡ outcome.Refused r
+  pub outcome-refused : (r : Refusal) → first (textSizeLines (length text) cells places) ≡ outcome.Refused r → readOutcome text cells places ≡ outcome.Refused r
   unfolding readOutcome
-  outcome-refused r e = ap first table-is ∙ first-refused (sizeLines (length text) cells places) (textLines text) r e
+  outcome-refused r e = ap first table-is ∙ first-refused (textSizeLines (length text) cells places) (textLines text) r e
 
-  pub outcome-sized : first (sizeLines (length text) cells places) ≡ outcome.Done → readOutcome text cells places ≡ first (textLines text)
+  pub outcome-sized : first (textSizeLines (length text) cells places) ≡ outcome.Done → readOutcome text cells places ≡ first (textLines text)
   unfolding readOutcome
-  outcome-sized e = ap first table-is ∙ first-done (sizeLines (length text) cells places) (textLines text) e
+  outcome-sized e = ap first table-is ∙ first-done (textSizeLines (length text) cells places) (textLines text) e
 
   -- a call that is not refused
   pub outcome-done : readOutcome text cells places ≡ outcome.Done → Fits (length text) cells places × (first (textLines text) ≡ outcome.Done)
   unfolding readOutcome
   outcome-done e =
-      let p = parts-done (sizeLines (length text) cells places) (textLines text) (ap first (sym table-is) ∙ e) in
+      let p = parts-done (textSizeLines (length text) cells places) (textLines text) (ap first (sym table-is) ∙ e) in
       (sizes-fit (length text) cells places (p .0), p .1)
 
   -- the three promises, where the call is refused with zeros in the buffers ..
@@ -69,14 +69,14 @@ module _ (text : List ℕ) (cells places : ℕ) where
   refused-laid r a b e p q =
       (rw e, (p ∙ laid-refused pz (readOutcome text cells places) r cells (covarianceIn text) e, q ∙ laid-refused 0 (readOutcome text cells places) r places (startsIn text) e))
 
-  pub ends-small : (r : Refusal) (a : List Float) (b : List ℕ) (said : Outcome) → said ≡ first (sizeLines (length text) cells places)
+  pub ends-small : (r : Refusal) (a : List Float) (b : List ℕ) (said : Outcome) → said ≡ first (textSizeLines (length text) cells places)
       → said ≡ outcome.Refused r → a ≡ zeros cells → b ≡ noughts places
       → (reading.Refused r ≡ readOf text cells places) × ((a ≡ covarianceLaid text cells places) × (b ≡ startsLaid text cells places))
   ends-small r a b said e h p q = refused-laid r a b (outcome-refused r (sym e ∙ h)) p q
 
   -- .. and where the text was read
   module _ (said : Outcome) (r : Reading) (a : List Float) (b : List ℕ) (a′ : List Float) (b′ : List ℕ)
-      (judged : said ≡ first (sizeLines (length text) cells places)) (sized : said ≡ outcome.Done)
+      (judged : said ≡ first (textSizeLines (length text) cells places)) (sized : said ≡ outcome.Done)
       (is-read : TextRead text r a b a′ b′) where
     read-is : readOutcome text cells places ≡ first (textLines text)
     read-is = outcome-sized (sym judged ∙ sized)

@@ -10,14 +10,14 @@ use Rattle.refusal.specs.Refusal.{numberOf}
 use Rattle.refusal.specs.Table.{first}
 use Rattle.lent.specs.Grid.{tab, grid}
 use Rattle.text.specs.Bytes.{bytes, same, lower, lowered, isWord}
-use Rattle.fields.specs.Split.{onto, split, upto, endOf, all as every}
+use Rattle.fields.specs.Split.{onto, split, firstPiece, endOf, all as every}
 use Rattle.fields.specs.Numerals.{digit, number, isCell, isNumeral, numeralRead}
 use Rattle.linkage.specs.Names.{distanceNamed, linkageNamed}
 use Rattle.linkage.specs.declared.Distance.{Distance}
 use Rattle.linkage.specs.declared.Distance.the-variants.{Correlation, DistanceOfDistances}
 use Rattle.reading.specs.declared.Asked.{Asked}
 use Rattle.reading.specs.declared.Reading.{Reading}
-use Rattle.reading.specs.Reading.{clustersOf, isHrp, isHcaa, isName, isAsset, isJob, covarianceCell, covarianceIn, nameOf, startOf, startsIn, distanceField, textLines, readTable, readOutcome, jobIn, readOf}
+use Rattle.reading.specs.Reading.{clustersOf, isHrp, isHcaa, isName, isAsset, isJob, textCell, covarianceIn, nameOf, startOf, startsIn, distanceField, textLines, readTable, readOutcome, jobIn, readOf}
 use Rattle.reading.specs.declared.Asked.the-variants as asked
 use Rattle.reading.specs.declared.Reading.the-variants as reading
 
@@ -69,7 +69,7 @@ jobs =
     ∷ same (bits (take 4 (covarianceIn three))) (0x3ff0_0000_0000_0000 ∷ 0x3fe0_0000_0000_0000 ∷ 0 ∷ 0x3fe0_0000_0000_0000 ∷ [])
     ∷ same (startsIn three) (42 ∷ 95 ∷ 148 ∷ [])
     ∷ same (nameOf three 1) (bytes "B")
-    ∷ same (upto 9 (upto 10 (drop 95 three))) (bytes "B")
+    ∷ same (firstPiece 9 (firstPiece 10 (drop 95 three))) (bytes "B")
     ∷ eqb (read (bytes "hrp\tdistance_of_distances\n")) 200
     -- the buffers' 11 before a malformed text's 15
     ∷ eqb (told (readOf [] 4095 64)) 11
@@ -130,5 +130,5 @@ clusters =
     ∷ []
 
 pub figures : all jobs && all refused && all clusters ≡ true
-unfolding first tab grid same lower lowered isWord onto split upto endOf every digit number isCell isNumeral numeralRead distanceNamed linkageNamed clustersOf isHrp isHcaa isName isAsset isJob covarianceCell covarianceIn nameOf startOf startsIn distanceField textLines readTable readOutcome jobIn readOf ofFields ofBits toBits
+unfolding first tab grid same lower lowered isWord onto split firstPiece endOf every digit number isCell isNumeral numeralRead distanceNamed linkageNamed clustersOf isHrp isHcaa isName isAsset isJob textCell covarianceIn nameOf startOf startsIn distanceField textLines readTable readOutcome jobIn readOf ofFields ofBits toBits
 figures = refl

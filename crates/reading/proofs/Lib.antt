@@ -5,4 +5,5 @@ pub mod Room
 pub mod Whole
 pub mod Answer
 pub mod Accepted
+pub mod Tellings
 pub mod Figures

@@ -16,12 +16,12 @@ use lib.Ieee.{Float}
 use Rattle.lent.specs.Grid.{tab, grid, over}
 use Rattle.lent.proofs.Laws.{same-or-not, length-grid, grid-more, tab-ext, rows-le}
 use Rattle.lent.proofs.Fill.{tab-start, tab-step, rows-start}
-use Rattle.fields.specs.Split.{split, piece, upto, endOf, all}
+use Rattle.fields.specs.Split.{split, piece, firstPiece, endOf, all}
 use Rattle.fields.specs.Numerals.{cellOf}
 use Rattle.fields.proofs.Every.{all-end, all-yes, all-no}
 use Rattle.fields.proofs.Pieces.{pieces, end-le, end-ge, cut-first, last-piece, next-pieces, piece-upto}
-use Rattle.reading.specs.Reading.{line, assets, isAsset, covarianceCell, covarianceIn, startOf, startsIn}
-use Rattle.reading.specs.Walk.{cellAt, AssetRead, isBody, AssetsRead}
+use Rattle.reading.specs.Reading.{line, assets, isAsset, textCell, covarianceIn, startOf, startsIn}
+use Rattle.reading.specs.Inner.{cellAt, AssetRead, isBody, AssetsRead}
 
 -- ---- where line k begins
 
@@ -55,7 +55,7 @@ module _ (text : List ℕ) where
     start-in = begins k h .within
 
     -- line k is what stands from there to the next newline
-    pub line-at : line text k ≡ upto 10 (drop (startOf text k) text)
+    pub line-at : line text k ≡ firstPiece 10 (drop (startOf text k) text)
     line-at =
         let e : k + 0 ≡ k = omega arith in
         ap (λ (m : ℕ). getD (split 10 text) m []) (sym e)
@@ -76,7 +76,7 @@ module _ (text : List ℕ) where
       go : Begins text k → Dec (length text ≤ endOf 10 text (startOf text k)) → eqb (length (piece 10 text k)) 0 ≡ eqb (startOf text k) (length text)
       go b (yes q) =
           let at = startOf text k in
-          let l : length (piece 10 text k) ≡ length (upto 10 (drop at text)) = ap length (line-at k (omega arith)) in
+          let l : length (piece 10 text k) ≡ length (firstPiece 10 (drop at text)) = ap length (line-at k (omega arith)) in
           let f = end-le 10 text at (b .within) in
           ⊎-elim
           (λ e. eq-eqb (length (piece 10 text k)) 0 (omega arith) ∙ sym (eq-eqb at (length text) e))
@@ -109,7 +109,7 @@ pub record Lined (text : List ℕ) (n : ℕ) (covariance₀ : List Float) (start
   pub cells : length covariance ≡ length covariance₀
   pub places : length starts ≡ length starts₀
   pub told : all (isAsset n) (drop 1 (take (n + 1) (split 10 text))) ≡ all (isAsset n) (drop (i + 1) (take (n + 1) (split 10 text)))
-  pub filled : covariance ≡ over (grid i n (covarianceCell text)) covariance₀
+  pub filled : covariance ≡ over (grid i n (textCell text)) covariance₀
   pub placed : starts ≡ over (tab i (λ (k : ℕ). startOf text (k + 1))) starts₀
 
 pub lined-start : (text : List ℕ) (n : ℕ) (covariance : List Float) (starts : List ℕ) (e : ℕ) → e ≡ endOf 10 text 0 → Lined text n covariance starts 0 (e + 1) covariance starts
@@ -120,7 +120,7 @@ lined-start text n covariance starts e h = record {
   cells = refl;
   places = refl;
   told = refl;
-  filled = rows-start n (covarianceCell text) covariance;
+  filled = rows-start n (textCell text) covariance;
   placed = tab-start (λ (k : ℕ). startOf text (k + 1)) starts;
 }
 
@@ -175,7 +175,7 @@ module _ (text : List ℕ) (n : ℕ) (cut : length (split 10 text) ≡ n + 2) wh
 
       line-cut : take (e - at) (drop at text) ≡ line text (i + 1)
       line-cut =
-          let f : take (e - at) (drop at text) ≡ upto 10 (drop at text) = rw ends-at (cut-first 10 text at within) in
+          let f : take (e - at) (drop at text) ≡ firstPiece 10 (drop at text) = rw ends-at (cut-first 10 text at within) in
           f ∙ rw (w .begun) (sym (line-at text (i + 1) (omega arith)))
 
       module _ (m : ℕ) (r : Bool) (row : List Float) (asset : AssetRead m (take (e - at) (drop at text)) r row) (sized : m ≡ n) where
@@ -195,14 +195,14 @@ module _ (text : List ℕ) (n : ℕ) (cut : length (split 10 text) ≡ n + 2) wh
             }
 
         -- the cells of row i
-        row-is : r ≡ true → row ≡ tab n (covarianceCell text i)
-        unfolding cellAt covarianceCell
+        row-is : r ≡ true → row ≡ tab n (textCell text i)
+        unfolding cellAt textCell
         row-is q =
             let l = split 9 (line text (i + 1)) in
             asset .cells q
             ∙ ap (λ (k : ℕ). tab k (cellAt (drop 1 (split 9 (take (e - at) (drop at text)))))) sized
             ∙ ap (λ (t : List ℕ). tab n (cellAt (drop 1 (split 9 t)))) line-cut
-            ∙ tab-ext n (cellAt (drop 1 l)) (covarianceCell text i) (λ j h. let a : 1 + j ≡ j + 1 = omega arith in ap cellOf (getD-drop 1 l j [] ∙ ap (λ (k : ℕ). getD l k []) a))
+            ∙ tab-ext n (cellAt (drop 1 l)) (textCell text i) (λ j h. let a : 1 + j ≡ j + 1 = omega arith in ap cellOf (getD-drop 1 l j [] ∙ ap (λ (k : ℕ). getD l k []) a))
 
         pub lined-step : (covariance′ : List Float) (a b : ℕ) → r ≡ true → n * n ≤ length covariance₀ → n ≤ length starts₀
             → a ≡ i * n → b ≡ a + n → length covariance′ ≡ length covariance
@@ -220,7 +220,7 @@ module _ (text : List ℕ) (n : ℕ) (cut : length (split 10 text) ≡ n + 2) wh
               cells = same ∙ c;
               places = length-set starts i at ∙ d;
               told = w .told ∙ all-yes (isAsset n) (take (n + 1) (split 10 text)) (i + 1) [] (omega (arith, lines-are)) (asset-at true q);
-              filled = rows-put n (covarianceCell text) covariance covariance′ covariance₀ row i a b (w .filled) p p′ (omega arith) put (row-is q);
+              filled = rows-put n (textCell text) covariance covariance′ covariance₀ row i a b (w .filled) p p′ (omega arith) put (row-is q);
               placed = tab-step (λ (k : ℕ). startOf text (k + 1)) starts (set starts i at) starts₀ at i refl (w .placed) (w .begun) (omega arith);
             }
 

@@ -15,14 +15,14 @@ use lib.Ieee.{Float}
 use Rattle.lent.specs.Grid.{tab, over}
 use Rattle.lent.proofs.Laws.{same-or-not, length-tab, over-all}
 use Rattle.lent.proofs.Fill.{tab-start, tab-step}
-use Rattle.fields.specs.Split.{split, upto, endOf, all}
+use Rattle.fields.specs.Split.{split, firstPiece, endOf, all}
 use Rattle.fields.specs.Numerals.{isCell, cellOf, cellRead}
 use Rattle.fields.specs.declared.Cell.{Cell}
 use Rattle.fields.proofs.Pieces.{pieces, end-le, end-ge, cut-first, last-piece, next-pieces}
 use Rattle.fields.proofs.Digits.{cell-no, cell-yes}
 use Rattle.fields.specs.declared.Cell.the-variants as cell
 use Rattle.reading.specs.Reading.{isName, isAsset}
-use Rattle.reading.specs.Walk.{fieldsAfter, isRow, cellAt, RowRead, AssetRead}
+use Rattle.reading.specs.Inner.{fieldsAfter, isRow, cellAt, RowRead, AssetRead}
 
 -- ---- the fields after a place
 
@@ -35,16 +35,16 @@ unfolding fieldsAfter
 fields-on l e h = rw (lt-ltb e (length l) h)
 
 -- the first field from a place where one begins, and those after it
-pub fields-at : (l : List ℕ) (at : ℕ) → at ≤ length l → split 9 (drop at l) ≡ upto 9 (drop at l) ∷ fieldsAfter l (endOf 9 l at)
+pub fields-at : (l : List ℕ) (at : ℕ) → at ≤ length l → split 9 (drop at l) ≡ firstPiece 9 (drop at l) ∷ fieldsAfter l (endOf 9 l at)
 fields-at l at h = go (decLe (length l) (endOf 9 l at))
   where
-    go : Dec (length l ≤ endOf 9 l at) → split 9 (drop at l) ≡ upto 9 (drop at l) ∷ fieldsAfter l (endOf 9 l at)
-    go (yes k) = last-piece 9 l at h k ∙ ap (λ (w : List (List ℕ)). upto 9 (drop at l) ∷ w) (sym (fields-end l (endOf 9 l at) k))
+    go : Dec (length l ≤ endOf 9 l at) → split 9 (drop at l) ≡ firstPiece 9 (drop at l) ∷ fieldsAfter l (endOf 9 l at)
+    go (yes k) = last-piece 9 l at h k ∙ ap (λ (w : List (List ℕ)). firstPiece 9 (drop at l) ∷ w) (sym (fields-end l (endOf 9 l at) k))
     go (no k) =
         let g = lt-of-not-le k in
-        next-pieces 9 l at h g ∙ ap (λ (w : List (List ℕ)). upto 9 (drop at l) ∷ w) (sym (fields-on l (endOf 9 l at) g))
+        next-pieces 9 l at h g ∙ ap (λ (w : List (List ℕ)). firstPiece 9 (drop at l) ∷ w) (sym (fields-on l (endOf 9 l at) g))
 
-fields-next : (l : List ℕ) (e : ℕ) → e < length l → fieldsAfter l e ≡ upto 9 (drop (e + 1) l) ∷ fieldsAfter l (endOf 9 l (e + 1))
+fields-next : (l : List ℕ) (e : ℕ) → e < length l → fieldsAfter l e ≡ firstPiece 9 (drop (e + 1) l) ∷ fieldsAfter l (endOf 9 l (e + 1))
 fields-next l e h = fields-on l e h ∙ fields-at l (e + 1) (omega arith)
 
 -- ---- tests of a row
@@ -114,7 +114,7 @@ module _ {l : List ℕ} {from : ℕ} {row₀ : List Float} {j e : ℕ} {row : Li
           (omega (arith, end-ge 9 l (e + 1) h), omega (arith, end-le 9 l (e + 1) h))
 
       module _ (r : Cell) (is-read : r ≡ cellRead (take (k - (e + 1)) (drop (e + 1) l))) where
-        cut : cellRead (upto 9 (drop (e + 1) l)) ≡ r
+        cut : cellRead (firstPiece 9 (drop (e + 1) l)) ≡ r
         cut = sym (is-read ∙ ap cellRead (rw ends (cut-first 9 l (e + 1) (omega (arith, inside)))))
 
         pub walking-bad : r ≡ cell.Malformed → RowRead (length row₀) l from false row
@@ -126,11 +126,11 @@ module _ {l : List ℕ} {from : ℕ} {row₀ : List Float} {j e : ℕ} {row : Li
         unfolding cellAt
         walking-step v c =
             let s = w .sized in
-            let f = fields-next l e inside ∙ ap (λ (m : ℕ). upto 9 (drop (e + 1) l) ∷ fieldsAfter l m) (sym ends) in
+            let f = fields-next l e inside ∙ ap (λ (m : ℕ). firstPiece 9 (drop (e + 1) l) ∷ fieldsAfter l m) (sym ends) in
             let d = w .left ∙ f in
             let y = cell-yes _ v (cut ∙ c) in
             let a : j + 0 ≡ j = omega arith in
-            let g : getD (fieldsAfter l from) j [] ≡ upto 9 (drop (e + 1) l) =
+            let g : getD (fieldsAfter l from) j [] ≡ firstPiece 9 (drop (e + 1) l) =
             ap (λ (m : ℕ). getD (fieldsAfter l from) m []) (sym a) ∙ sym (getD-drop j (fieldsAfter l from) 0 []) ∙ ap (λ (q : List (List ℕ)). getD q 0 []) d in
             record {
               within = end-in .1;
@@ -154,22 +154,22 @@ module _ {l : List ℕ} {from : ℕ} {row₀ : List Float} {j e : ℕ} {row : Li
 
 -- ---- an asset's line: its name, and its row
 
-asset-is : (n : ℕ) (l : List ℕ) → isAsset n l ≡ (isName (upto 9 l) && isRow n (fieldsAfter l (endOf 9 l 0)))
+asset-is : (n : ℕ) (l : List ℕ) → isAsset n l ≡ (isName (firstPiece 9 l) && isRow n (fieldsAfter l (endOf 9 l 0)))
 unfolding isAsset isRow
 asset-is n l =
-    let f : split 9 l ≡ upto 9 l ∷ fieldsAfter l (endOf 9 l 0) = fields-at l 0 (omega arith) in
+    let f : split 9 l ≡ firstPiece 9 l ∷ fieldsAfter l (endOf 9 l 0) = fields-at l 0 (omega arith) in
     let r = fieldsAfter l (endOf 9 l 0) in
     let q : eqb (suc (length r)) (n + 1) ≡ eqb (length r) n = eqb-suc (length r) n (n + 1) (omega arith) in
-    rw (f, q) (turn (eqb (length r) n) (isName (upto 9 l)) (all isCell r))
+    rw (f, q) (turn (eqb (length r) n) (isName (firstPiece 9 l)) (all isCell r))
   where
     turn : (a b d : Bool) → (a && (b && d)) ≡ (b && (a && d))
     turn true b d = refl
     turn false b d = sym (and-false b)
 
-pub asset-no : (n : ℕ) (l : List ℕ) (row : List Float) → isName (upto 9 l) ≡ false → AssetRead n l false row
+pub asset-no : (n : ℕ) (l : List ℕ) (row : List Float) → isName (firstPiece 9 l) ≡ false → AssetRead n l false row
 asset-no n l row e = record { told = sym (asset-is n l ∙ rw e); cells = λ z. absurd (let y : _≡_ {A = ℕ} 0 1 = cc in omega arith) }
 
-pub asset-yes : (n : ℕ) (l : List ℕ) (r : Bool) (row : List Float) → isName (upto 9 l) ≡ true → RowRead n l (endOf 9 l 0) r row → AssetRead n l r row
+pub asset-yes : (n : ℕ) (l : List ℕ) (r : Bool) (row : List Float) → isName (firstPiece 9 l) ≡ true → RowRead n l (endOf 9 l 0) r row → AssetRead n l r row
 asset-yes n l r row e h =
-    let f : split 9 l ≡ upto 9 l ∷ fieldsAfter l (endOf 9 l 0) = fields-at l 0 (omega arith) in
+    let f : split 9 l ≡ firstPiece 9 l ∷ fieldsAfter l (endOf 9 l 0) = fields-at l 0 (omega arith) in
     record { told = h .told ∙ sym (asset-is n l ∙ rw e); cells = λ z. h .cells z ∙ ap (λ (w : List (List ℕ)). tab n (cellAt w)) (sym (ap (λ (w : List (List ℕ)). drop 1 w) f)) }

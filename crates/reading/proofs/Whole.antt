@@ -26,8 +26,8 @@ use Rattle.linkage.specs.declared.NamedDistance.{NamedDistance}
 use Rattle.linkage.specs.declared.NamedLinkage.{NamedLinkage}
 use Rattle.linkage.specs.declared.NamedDistance.the-variants as distance
 use Rattle.linkage.specs.declared.NamedLinkage.the-variants as linkage
-use Rattle.reading.specs.Reading.{lines, rest, line, field, fieldsIn, assets, isHrp, isHcaa, isAsset, isJob, known, knownLinkage, distanceField, textLines, hrpRead, hcaaRead, jobIn, readAs}
-use Rattle.reading.specs.Walk.{headOf, isBody, Filled, TextRead}
+use Rattle.reading.specs.Reading.{lines, rest, line, field, fieldsIn, assets, isHrp, isHcaa, isAsset, isJob, knownDistance, knownLinkage, distanceField, textLines, hrpRead, hcaaRead, jobIn, readAs}
+use Rattle.reading.specs.Inner.{headOf, isBody, Filled, TextRead}
 use Rattle.reading.specs.declared.Reading.{Reading}
 use Rattle.reading.specs.declared.Reading.the-variants as reading
 use Rattle.reading.proofs.Lines.{lines-are, assets-are, body-at}
@@ -59,7 +59,7 @@ linkage-refused w r e = go (isWord w (bytes "single")) (isWord w (bytes "complet
 -- ---- the first line's job, as the table has it: "8, 7"
 
 hrp-told : (n : ℕ) (x : NamedDistance) → ((r : Refusal) → x ≡ distance.Refused r → r ≡ UnknownDistance)
-    → hrpRead n x ≡ readAs (first ((not (known x), UnknownDistance) ∷ [])) (hrpRead n x)
+    → hrpRead n x ≡ readAs (first ((not (knownDistance x), UnknownDistance) ∷ [])) (hrpRead n x)
 unfolding first
 hrp-told n (distance.Of d) h = refl
 hrp-told n (distance.Refused r) h = ap reading.Refused (h r refl)
@@ -67,17 +67,17 @@ hrp-told n (distance.Refused r) h = ap reading.Refused (h r refl)
 hcaa-told : (n : ℕ) (a : NamedLinkage) (x : NamedDistance)
     → ((r : Refusal) → a ≡ linkage.Refused r → r ≡ UnknownLinkage)
     → ((r : Refusal) → x ≡ distance.Refused r → r ≡ UnknownDistance)
-    → hcaaRead n a x ≡ readAs (first ((not (knownLinkage a), UnknownLinkage) ∷ (not (known x), UnknownDistance) ∷ [])) (hcaaRead n a x)
+    → hcaaRead n a x ≡ readAs (first ((not (knownLinkage a), UnknownLinkage) ∷ (not (knownDistance x), UnknownDistance) ∷ [])) (hcaaRead n a x)
 unfolding first
 hcaa-told n (linkage.Of l) (distance.Of d) g h = refl
 hcaa-told n (linkage.Of l) (distance.Refused r) g h = ap reading.Refused (h r refl)
 hcaa-told n (linkage.Refused r) x g h = ap reading.Refused (g r refl)
 
-hrp-kept : (n : ℕ) (x : NamedDistance) (k : Refusal) → not (known x) ≡ false → hrpRead n x ≡ reading.Refused k → ⊥
+hrp-kept : (n : ℕ) (x : NamedDistance) (k : Refusal) → not (knownDistance x) ≡ false → hrpRead n x ≡ reading.Refused k → ⊥
 hrp-kept n (distance.Of d) k t e = let z : _≡_ {A = ℕ} 0 1 = cc in omega arith
 hrp-kept n (distance.Refused r) k t e = let z : _≡_ {A = ℕ} 0 1 = cc in omega arith
 
-hcaa-kept : (n : ℕ) (a : NamedLinkage) (x : NamedDistance) (k : Refusal) → not (knownLinkage a) ≡ false → not (known x) ≡ false → hcaaRead n a x ≡ reading.Refused k → ⊥
+hcaa-kept : (n : ℕ) (a : NamedLinkage) (x : NamedDistance) (k : Refusal) → not (knownLinkage a) ≡ false → not (knownDistance x) ≡ false → hcaaRead n a x ≡ reading.Refused k → ⊥
 hcaa-kept n (linkage.Of l) (distance.Of d) k s t e = let z : _≡_ {A = ℕ} 0 1 = cc in omega arith
 hcaa-kept n (linkage.Of l) (distance.Refused r) k s t e = let z : _≡_ {A = ℕ} 0 1 = cc in omega arith
 hcaa-kept n (linkage.Refused r) x k s t e = let z : _≡_ {A = ℕ} 0 1 = cc in omega arith
@@ -154,13 +154,13 @@ module _ (text : List ℕ) where
 
   -- the table of a job's text, by its first line
   module _ (job : isJob text ≡ true) where
-    lines-hrp : isHrp (line text 0) ≡ true → first (textLines text) ≡ first ((not (known (distanceNamed (field (line text 0) 1))), UnknownDistance) ∷ [])
+    lines-hrp : isHrp (line text 0) ≡ true → first (textLines text) ≡ first ((not (knownDistance (distanceNamed (field (line text 0) 1))), UnknownDistance) ∷ [])
     unfolding textLines distanceField
     lines-hrp e = table-pass _ MalformedText _ (ap not job) ∙ table-pass _ UnknownLinkage _ (rw (hrp-not-hcaa (line text 0) e)) ∙ rw e
 
     lines-hcaa : isHrp (line text 0) ≡ false → isHcaa (line text 0) ≡ true
         → first (textLines text)
-        ≡ first ((not (knownLinkage (linkageNamed (field (line text 0) 2))), UnknownLinkage) ∷ (not (known (distanceNamed (field (line text 0) 3))), UnknownDistance) ∷ [])
+        ≡ first ((not (knownLinkage (linkageNamed (field (line text 0) 2))), UnknownLinkage) ∷ (not (knownDistance (distanceNamed (field (line text 0) 3))), UnknownDistance) ∷ [])
     unfolding textLines distanceField
     lines-hcaa e f = table-pass _ MalformedText _ (ap not job) ∙ rw (e, f)
 

@@ -7,13 +7,14 @@ use lib.ListN.{length, take, drop}
 use lib.Ieee.{Float}
 use Rattle.arithmetic.specs.Constants.{pz}
 use Rattle.refusal.specs.Table.{Line, first}
+use Rattle.refusal.specs.Telling.{Telling, accepts, refuses}
 use Rattle.refusal.specs.declared.Refusal.the-variants.{UnknownDistance, UnknownLinkage, OverLimit, ShortBuffer, MalformedText}
 use Rattle.refusal.specs.declared.Outcome.{Outcome}
 use Rattle.refusal.specs.declared.Outcome.the-variants as outcome
 use Rattle.lent.specs.Grid.{grid, tab}
 use Rattle.lent.specs.Lent.{most-assets, most-cells, laid}
 use Rattle.text.specs.Bytes.{bytes, same}
-use Rattle.fields.specs.Split.{split, piece, endOf, all}
+use Rattle.fields.specs.Split.{newline, tabulator, split, piece, endOf, all}
 use Rattle.fields.specs.Numerals.{isCell, cellOf, numeralRead}
 use Rattle.fields.specs.declared.Numeral.{Numeral}
 use Rattle.fields.specs.declared.Numeral.the-variants as numeral
@@ -28,12 +29,6 @@ use Rattle.reading.specs.declared.Asked.{Asked}
 use Rattle.reading.specs.declared.Asked.the-variants as asked
 use Rattle.reading.specs.declared.Reading.{Reading}
 use Rattle.reading.specs.declared.Reading.the-variants as reading
-
-abbrev newline : ℕ
-newline = 10
-
-abbrev tabulator : ℕ
-tabulator = 9
 
 -- ---- lines and fields
 
@@ -75,6 +70,16 @@ wellAsked asked.Malformed = false
 wellAsked asked.All = true
 wellAsked (asked.Count k) = true
 
+-- what is asked for, or 15
+unfoldable pub askedOutcome : List ℕ → Outcome
+unfolding clustersOf
+askedOutcome w = first ((not (wellAsked (clustersOf w)), MalformedText) ∷ [])
+
+abbrev pub askedTells : Asked → Telling Asked
+askedTells asked.Malformed = refuses MalformedText
+askedTells asked.All = accepts asked.All
+askedTells (asked.Count k) = accepts (asked.Count k)
+
 unfoldable pub isHrp : List ℕ → Bool
 unfolding split same
 isHrp l = eqb (fieldsIn l) 2 && same (field l 0) (bytes "hrp")
@@ -111,13 +116,13 @@ isJob text =
     && all (isAsset (assets text)) (drop 1 (lines text))))
 
 -- cell (i, j) of the covariance is field j + 1 of line i + 1
-unfoldable pub covarianceCell : List ℕ → ℕ → ℕ → Float
+unfoldable pub textCell : List ℕ → ℕ → ℕ → Float
 unfolding split
-covarianceCell text i j = cellOf (field (line text (i + 1)) (j + 1))
+textCell text i j = cellOf (field (line text (i + 1)) (j + 1))
 
 unfoldable pub covarianceIn : List ℕ → List Float
-unfolding covarianceCell
-covarianceIn text = grid (assets text) (assets text) (covarianceCell text)
+unfolding textCell
+covarianceIn text = grid (assets text) (assets text) (textCell text)
 
 unfoldable pub nameOf : List ℕ → ℕ → List ℕ
 unfolding split
@@ -136,9 +141,9 @@ startsIn text = tab (assets text) (λ i. startOf text (i + 1))
 
 -- ---- refusals: "Order: 9, 15, 8, 7", with the lent buffers' 11 after the 9
 
-abbrev pub known : NamedDistance → Bool
-known (distance.Of d) = true
-known (distance.Refused r) = false
+abbrev pub knownDistance : NamedDistance → Bool
+knownDistance (distance.Of d) = true
+knownDistance (distance.Refused r) = false
 
 abbrev pub knownLinkage : NamedLinkage → Bool
 knownLinkage (linkage.Of l) = true
@@ -154,13 +159,14 @@ unfolding isJob isHrp isHcaa distanceField distanceNamed linkageNamed
 textLines text =
     (not (isJob text), MalformedText)
     ∷ (isHcaa (line text 0) && not (knownLinkage (linkageNamed (field (line text 0) 2))), UnknownLinkage)
-    ∷ (not (known (distanceNamed (distanceField (line text 0)))), UnknownDistance)
+    ∷ (not (knownDistance (distanceNamed (distanceField (line text 0)))), UnknownDistance)
     ∷ []
 
 -- "Text of at most 65,536 bytes (else 9)"
 abbrev pub most-bytes : ℕ
 most-bytes = 65536
 
+-- the text alone says how many assets it has, so the lent buffers take those of every text: 4,096 cells and 64 starts, whatever the text
 unfoldable pub readTable : List ℕ → ℕ → ℕ → List Line
 unfolding textLines
 readTable text cells starts =
@@ -198,6 +204,12 @@ readAs (outcome.Refused k) r = reading.Refused k
 unfoldable pub readOf : List ℕ → ℕ → ℕ → Reading
 unfolding readOutcome jobIn
 readOf text cells starts = readAs (readOutcome text cells starts) (jobIn text)
+
+-- what the answer tells: 0 and the job, or the refusal's number
+abbrev pub readingTells : Reading → Telling Reading
+readingTells (reading.Refused r) = refuses r
+readingTells (reading.Hrp n d) = accepts (reading.Hrp n d)
+readingTells (reading.Hcaa n l d) = accepts (reading.Hcaa n l d)
 
 -- what the lent doubles hold: the covariance, then zeros; and the lent numbers: where the assets' lines begin, then zeros
 unfoldable pub covarianceLaid : List ℕ → ℕ → ℕ → List Float

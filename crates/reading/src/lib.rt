@@ -11,11 +11,11 @@ use refusal::Refusal;
 ghost use mathlib.Core.Path.{_≡_};
 ghost use Prim.Native.Nat.{_+_, _*_, _≤_};
 ghost use lib.ListN.{length, drop};
-ghost use Rattle.fields.specs.Split.{split, upto, all};
+ghost use Rattle.fields.specs.Split.{split, firstPiece, all};
 ghost use Rattle.linkage.specs.Names.{distanceNamed, linkageNamed};
 ghost use Rattle.refusal.specs.Table.{first};
 ghost use Rattle.reading.specs.Reading.{field, clustersOf, wellAsked, isHrp, isHcaa, inName, isName, hrpRead, hcaaRead, readOf, covarianceLaid, startsLaid};
-ghost use Rattle.reading.specs.Walk.{sizeLines, headOf, RowRead, AssetRead, AssetsRead, TextRead};
+ghost use Rattle.reading.specs.Inner.{textSizeLines, headOf, RowRead, AssetRead, AssetsRead, TextRead};
 
 pub const MOST_BYTES: usize = 65536;
 
@@ -253,7 +253,7 @@ fn read_text(text: &[u8], covariance: &mut [f64], starts: &mut [usize]) -> Readi
 
 // What the sizes refuse: 9, then 11 for either buffer.
 fn judge(bytes: usize, cells: usize, places: usize) -> Outcome
-    ensures { λ r. ⌜ r ≡ first (sizeLines bytes cells places) ⌝ }
+    ensures { λ r. ⌜ r ≡ first (textSizeLines bytes cells places) ⌝ }
 {
     let rest = refusal::refuse(
         places < lent::MOST_ASSETS,
@@ -280,14 +280,14 @@ pub fn read_job(text: &[u8], covariance: &mut [f64], starts: &mut [usize]) -> Re
     let Reading::Refused(_) = read else {
         return read;
     };
-    lent::clear(covariance);
-    lent::clear_numbers(starts);
+    lent::clear_from(covariance, 0);
+    lent::clear_numbers_from(starts, 0);
     read
 }
 
 // The name on the line that begins at a place.
 pub fn name(text: &[u8], start: usize) -> &[u8]
-    ensures { λ r. ⌜ now r ≡ upto 9 (upto 10 (drop start (now (text .entry)))) ⌝ }
+    ensures { λ r. ⌜ now r ≡ firstPiece 9 (firstPiece 10 (drop start (now (text .entry)))) ⌝ }
 {
     if text.len() <= start {
         return &text[text.len()..];

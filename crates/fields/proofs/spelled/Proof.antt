@@ -4,7 +4,7 @@ use mathlib.Core.Path.{_≡_, refl, sym, _∙_}
 use native.Mathlib.Omega.{arith}
 use borrow.Author.Needs.{needs}
 use lib.ListN.{length, drop}
-use Rattle.fields.specs.Spelling.{spelledAfter}
+use Rattle.fields.specs.Inner.{spelledAfter}
 use Rattle.fields.proofs.Digits.{spelled-end, spelled-no, spelled-on, roomy}
 use Rattle.fields.proofs.spelled.Statement.{statement}
 use Rattle.fields.proofs.spelled.Tie as tie

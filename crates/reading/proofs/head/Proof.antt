@@ -1,7 +1,7 @@
 -- `reading::head` meets its contract. Assumes nothing.
 use mathlib.Core.Path.{sym, _∙_}
 use borrow.Author.Needs.{needs}
-use Rattle.reading.specs.Walk.{headOf}
+use Rattle.reading.specs.Inner.{headOf}
 use Rattle.reading.proofs.head.Statement.{statement}
 use Rattle.reading.proofs.head.Tie as tie
 

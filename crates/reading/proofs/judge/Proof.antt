@@ -1,7 +1,7 @@
 -- `reading::judge` meets its contract. Assumes nothing.
 use borrow.Author.Needs.{needs}
 use Rattle.refusal.proofs.Tables.{table, table-end}
-use Rattle.reading.specs.Walk.{sizeLines}
+use Rattle.reading.specs.Inner.{textSizeLines}
 use Rattle.reading.proofs.judge.Statement.{statement}
 use Rattle.reading.proofs.judge.Tie as tie
 
@@ -15,7 +15,7 @@ refuse-requires-3 : tie.Need-refuse-requires-3
 refuse-requires-3 c κs = search needs
 
 returns : tie.Need-returns
-unfolding sizeLines
+unfolding textSizeLines
 returns c = simp (table, table-end) (cc)
 
 pub judge-spec : {M : Type 1} → statement M

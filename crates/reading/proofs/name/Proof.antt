@@ -5,7 +5,7 @@ use native.Mathlib.Omega.{arith}
 use borrow.Author.Needs.{needs}
 use lib.ListN.{length, take, drop, drop-of-length-le}
 use lib.Seq.{drop-length, take-nil}
-use Rattle.fields.specs.Split.{upto}
+use Rattle.fields.specs.Split.{firstPiece}
 use Rattle.fields.proofs.Pieces.{end-le, end-ge, cut-first, cut-front, front-length}
 use Rattle.reading.proofs.name.Statement.{statement}
 use Rattle.reading.proofs.name.Tie as tie
@@ -20,7 +20,7 @@ part-result-end : tie.Need-part-result-end
 part-result-end c = search needs
 
 returns : tie.Need-returns
-unfolding upto
+unfolding firstPiece
 returns c =
     let t = c .before .before .before .args .text .now in
     rw (drop-length, drop-of-length-le t (c .before .if1 .taken)) (take-nil (length t - length t))
@@ -53,7 +53,7 @@ returns-2 : tie.Need-returns-2
 returns-2 c =
     let s = c .before .before .before .before .before .before .args in
     let l = ap (λ (k : ℕ). take (k - s .start) (drop (s .start) (s .text .now))) (c .before .before .before .end-of .ensures) ∙ cut-first 10 (s .text .now) (s .start) (omega arith) in
-    rw (c .before .end-of2 .ensures) (cut-front 9 _ ∙ ap (upto 9) l)
+    rw (c .before .end-of2 .ensures) (cut-front 9 _ ∙ ap (firstPiece 9) l)
 
 pub name-spec : {M : Type 1} → statement M
 name-spec =

@@ -1,6 +1,7 @@
 -- `reading::read_job` meets its contract. Assumes nothing.
 use mathlib.Core.Path.{sym, ap, _∙_}
 use mathlib.Core.Logic.{⊎-elim}
+use native.Mathlib.Numerals.{unary-clauses}
 use native.Mathlib.Omega.{arith}
 use borrow.Author.Needs.{needs}
 use Rattle.lent.specs.Grid.{zeros, noughts}
@@ -66,11 +67,11 @@ returns-2 c =
     (d .clear .ensures)
     (m .clear-numbers .ensures)
 
-clear-requires-2 : tie.Need-clear-requires-2
-clear-requires-2 c κs = search needs
+clear-from-requires : tie.Need-clear-from-requires
+clear-from-requires c κs = search needs
 
-clear-numbers-requires-2 : tie.Need-clear-numbers-requires-2
-clear-numbers-requires-2 c κs = search needs
+clear-numbers-from-requires : tie.Need-clear-numbers-from-requires
+clear-numbers-from-requires c κs = search needs
 
 same-length-5 : tie.Need-same-length-5
 same-length-5 c = search needs
@@ -91,8 +92,8 @@ returns-3 c =
     let w = q .before .before .before .before in
     let j = w .before .before .before in
     ends-refused _ _ _ _ _ _ _ _ _ (j .judge .ensures) (a .enum-told .given .1) (r .read-text .ensures) _ _ _ (e .enum-told2 .given .1)
-    (d .clear2 .ensures ∙ ap zeros (v .covariance2 .given ∙ w .covariance .given))
-    (m .clear-numbers2 .ensures ∙ ap noughts (s .starts2 .given ∙ q .starts .given))
+    ((simp unary-clauses at (d .clear-from .ensures)) ∙ ap zeros (v .covariance2 .given ∙ w .covariance .given))
+    ((simp unary-clauses at (m .clear-numbers-from .ensures)) ∙ ap noughts (s .starts2 .given ∙ q .starts .given))
 
 pub read-job-spec : {M : Type 1} → statement M
 read-job-spec =
@@ -111,8 +112,8 @@ read-job-spec =
     same-length-3
     same-length-4
     returns-2
-    clear-requires-2
-    clear-numbers-requires-2
+    clear-from-requires
+    clear-numbers-from-requires
     same-length-5
     same-length-6
     returns-3)

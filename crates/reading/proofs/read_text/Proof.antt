@@ -7,7 +7,7 @@ use borrow.Author.Tests.{not-true, not-false}
 use borrow.Author.Needs.{needs}
 use lib.ListN.{take}
 use Rattle.fields.proofs.Pieces.{cut-front, front-length, piece-upto}
-use Rattle.reading.specs.Walk.{headOf}
+use Rattle.reading.specs.Inner.{headOf}
 use Rattle.reading.proofs.Whole.{cut-is, job-lineless, job-unlined, body-crowded, text-bad, text-good}
 use Rattle.reading.proofs.read_text.Statement.{statement}
 use Rattle.reading.proofs.read_text.Tie as tie

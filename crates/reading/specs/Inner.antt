@@ -1,4 +1,4 @@
--- What only the private functions cite: where the walk over lines and fields stands, and what each step has read. Definitions only.
+-- What the private functions ask of one another and promise: may be skipped. Definitions only.
 use Prim.Native.Nat.{ℕ, _+_}
 use mathlib.Core.Path.{_≡_}
 use mathlib.Core.Bool.{Bool, true, cond, _&&_}
@@ -19,8 +19,8 @@ use Rattle.reading.specs.declared.Reading.{Reading}
 use Rattle.reading.specs.declared.Reading.the-variants as reading
 
 -- the first lines of the table: those that the sizes decide
-unfoldable pub sizeLines : ℕ → ℕ → ℕ → List Line
-sizeLines bytes cells starts =
+unfoldable pub textSizeLines : ℕ → ℕ → ℕ → List Line
+textSizeLines bytes cells starts =
     (ltb most-bytes bytes, OverLimit)
     ∷ (ltb cells most-cells, ShortBuffer)
     ∷ (ltb starts most-assets, ShortBuffer)

@@ -1,4 +1,4 @@
--- What only the private `spelled` cites: digits read from the first on. Definitions only.
+-- What the private functions ask of one another and promise: may be skipped. Definitions only.
 use Prim.Native.Nat.{ℕ}
 use mathlib.Core.Bool.{cond}
 use mathlib.Core.List.{List}

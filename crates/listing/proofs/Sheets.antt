@@ -1,0 +1,138 @@
+-- How the two calls end that write into a lent buffer. Assumes nothing.
+use Prim.Native.Nat.{ℕ, _+_, _-_, _≤_, _<_}
+use mathlib.Core.Path.{_≡_, refl, sym, ap, _∙_}
+use mathlib.Core.Bool.{true}
+use mathlib.Core.List.{List, [], _∷_, _++_}
+use native.Mathlib.Omega.{arith}
+use borrow.Author.Tests.{ltb-false, lt-ltb, le-ltb, leb-true, eqb-true, not-false}
+use lib.ListN.{length, getD, replicate, length-append, List·getD-append}
+use lib.Ieee.{Float, nan}
+use Rattle.refusal.specs.Table.{first, andThen}
+use Rattle.refusal.specs.Telling.{accepts, tells}
+use Rattle.refusal.specs.declared.Refusal.{Refusal}
+use Rattle.refusal.specs.declared.Refusal.the-variants.{OverLimit, ShortBuffer}
+use Rattle.refusal.specs.declared.Outcome.{Outcome}
+use Rattle.refusal.specs.declared.Outcome.the-variants.{Done, Refused}
+use Rattle.refusal.proofs.Tables.{none, table-hit, table-pass, table-end, both-done}
+use Rattle.lent.specs.Grid.{noughts, over}
+use Rattle.lent.specs.Lent.{laid}
+use Rattle.lent.proofs.Laws.{length-tab, getD-tab}
+use Rattle.lent.proofs.Sizes.{laid-done, laid-refused}
+use Rattle.fields.specs.Split.{all}
+use Rattle.fields.proofs.Every.{all-at}
+use Rattle.millionths.specs.Millionths.{millionthsOf, partOf, millionthsTable, millionthsOutcome, millionthsIn, millionthsLaid}
+use Rattle.tree.specs.Rows.{isOrder}
+use Rattle.tree.proofs.Rows.{is-order}
+use Rattle.listing.specs.Listing.{places, decimal, refusalLine, listedAs, ListingMade, nameIn, isShort, sheetLines, rangeTable, sheetOutcome, refusalOutcome}
+use Rattle.listing.specs.Inner.{Wrote, Named, Parted, Listable}
+use Rattle.listing.specs.declared.Listed.{Listed}
+use Rattle.listing.specs.declared.Listed.the-variants as listed
+use Rattle.listing.proofs.Writing.{at-front}
+use Rattle.listing.proofs.Digits.{length-digits}
+
+-- ---- what a call that writes s leaves
+
+pub made-done : (o : Outcome) (s : List ℕ) (room : ℕ) (blank out : List ℕ) (k : ℕ) → o ≡ Done → blank ≡ noughts room → Wrote blank 0 s out k → ListingMade o s room (listed.Sheet k) out
+unfolding listedAs
+made-done o s room blank out k e z w =
+    let f = at-front w in
+    record {
+      answer = ap listed.Sheet (f .0) ∙ sym (ap (λ (x : Outcome). listedAs x (length s)) e);
+      bytes-are = f .1 ∙ ap (over s) z ∙ laid-done 0 o room s e;
+      within = omega (arith, w .room, w .same);
+      told = ap accepts (f .0) ∙ sym (ap (λ (x : Outcome). tells x (length s)) e);
+    }
+
+pub made-refused : (o : Outcome) (s : List ℕ) (room : ℕ) (out : List ℕ) (k : Refusal) → o ≡ Refused k → out ≡ noughts room → ListingMade o s room (listed.Refused k) out
+unfolding listedAs
+made-refused o s room out k e z = record {
+  answer = sym (ap (λ (x : Outcome). listedAs x (length s)) e);
+  bytes-are = z ∙ laid-refused 0 o k room s e;
+  within = omega arith;
+  told = sym (ap (λ (x : Outcome). tells x (length s)) e);
+}
+
+-- ---- 13, by itself
+
+range-said : (ws : List Float) → length ws ≤ 64 → millionthsOutcome ws 64 ≡ first (rangeTable ws)
+unfolding millionthsOutcome millionthsTable rangeTable
+range-said ws h = table-pass _ OverLimit _ (le-ltb 64 (length ws) h) ∙ table-pass _ ShortBuffer _ (le-ltb 64 (length ws) h)
+
+-- ---- the listing: what its lines find right
+
+record Right (text starts : List ℕ) (count : ℕ) (order : List ℕ) (room : ℕ) : Type 0 where
+  few : length starts ≤ 64
+  roomy : 8192 ≤ room
+  weighed : count ≡ length starts
+  ordered : isOrder order (length starts) ≡ true
+  short : all (isShort text) starts ≡ true
+
+right : (text starts : List ℕ) (count : ℕ) (order : List ℕ) (room : ℕ) → first (sheetLines text starts count order room) ≡ Done → Right text starts count order room
+unfolding sheetLines
+right text starts count order room e =
+    let a = none _ e in
+    record {
+      few = ltb-false 64 (length starts) (a .1 .0);
+      roomy = ltb-false room 8192 (a .1 .1 .0);
+      weighed = eqb-true count (length starts) (not-false _ (a .1 .1 .1 .0));
+      ordered = not-false _ (a .1 .1 .1 .1 .0);
+      short = not-false _ (a .1 .1 .1 .1 .1 .0);
+    }
+
+module _ (text starts : List ℕ) (ws : List Float) (order : List ℕ) (room : ℕ) (judged ranged said : Outcome)
+    (j : judged ≡ first (sheetLines text starts (length ws) order room)) (m : ranged ≡ millionthsOutcome ws 64) (t : said ≡ andThen judged ranged) where
+  pub sheet-said : said ≡ sheetOutcome text starts ws order room
+  unfolding sheetOutcome andThen
+  sheet-said = t ∙ rw (j, m) (go (first (sheetLines text starts (length ws) order room)) refl)
+    where
+      go : (o : Outcome) → first (sheetLines text starts (length ws) order room) ≡ o → andThen o (millionthsOutcome ws 64) ≡ andThen o (first (rangeTable ws))
+      go Done e = let r = right text starts (length ws) order room e in range-said ws (omega (arith, r .few, r .weighed))
+      go (Refused k) e = refl
+
+  module _ (d : said ≡ Done) where
+    both : (judged ≡ Done) × (ranged ≡ Done)
+    both = both-done judged ranged (sym t ∙ d)
+
+    found : Right text starts (length ws) order room
+    found = right text starts (length ws) order room (sym j ∙ both .0)
+
+    named : Named text starts
+    unfolding isShort nameIn
+    named = record { few = found .few; short = λ i h. leb-true _ 16 (all-at (isShort text) starts 0 (found .short) i h) }
+
+    parted : (parts : List ℕ) → length parts ≡ 64 → parts ≡ millionthsLaid ws 64 → Parted ws parts
+    unfolding millionthsLaid millionthsIn laid
+    parted parts l p =
+        let f : ℕ → ℕ = λ i. partOf (millionthsOf (getD ws i nan)) in
+        let n = length-tab (length ws) f in
+        let e : parts ≡ millionthsIn ws ++ noughts (64 - length (millionthsIn ws)) = p ∙ ap (λ (x : Outcome). laid 0 x 64 (millionthsIn ws)) (sym m ∙ both .1) in
+        record {
+          wide = omega (arith, found .few, found .weighed);
+          are = λ i h. ap (λ (x : List ℕ). getD x i 0) e ∙ List·getD-append (millionthsIn ws) _ 0 i (omega (arith, n)) ∙ getD-tab (length ws) f i 0 h;
+        }
+
+    pub listable : (parts : List ℕ) → length parts ≡ 64 → parts ≡ millionthsLaid ws 64 → (room′ : ℕ) → room′ ≡ room → Listable text starts ws parts order room′
+    listable parts l p room′ e =
+        let o = is-order order (length starts) (found .ordered) in
+        record {
+          named = named;
+          weighed = found .weighed;
+          parted = parted parts l p;
+          few = omega (arith, o .size, found .few);
+          low = λ k h. o .low k (omega (arith, o .size));
+          roomy = omega (arith, found .roomy);
+        }
+
+-- ---- the line of a refusal
+
+line-length : (k : ℕ) → length (refusalLine k) ≡ places 6 k + 9
+unfolding refusalLine decimal
+line-length k = simp length-append (omega (arith, length-digits 10 (places 6 k) k))
+
+pub line-fits : (k room p : ℕ) → p ≡ places 6 k → p + 9 ≤ room → refusalOutcome k room ≡ Done
+unfolding refusalOutcome
+line-fits k room p e h = table-pass _ ShortBuffer [] (le-ltb room (length (refusalLine k)) (omega (arith, line-length k))) ∙ table-end
+
+pub line-short : (k room p : ℕ) → p ≡ places 6 k → room < p + 9 → refusalOutcome k room ≡ Refused ShortBuffer
+unfolding refusalOutcome
+line-short k room p e h = table-hit _ ShortBuffer [] (lt-ltb room (length (refusalLine k)) (omega (arith, line-length k)))

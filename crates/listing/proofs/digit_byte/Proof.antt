@@ -1,0 +1,27 @@
+-- `listing::digit_byte` meets its contract. Assumes nothing.
+use borrow.Author.Needs.{needs}
+use Rattle.listing.proofs.Digits.{low-digit, high-digit}
+use Rattle.listing.proofs.digit_byte.Statement.{statement}
+use Rattle.listing.proofs.digit_byte.Tie as tie
+
+cast-result : tie.Need-cast-result
+cast-result c = search needs
+
+add-result : tie.Need-add-result
+add-result c = search needs
+
+returns : tie.Need-returns
+returns c = low-digit _ (c .if1 .taken)
+
+cast-result-2 : tie.Need-cast-result-2
+cast-result-2 c = search needs
+
+add-result-2 : tie.Need-add-result-2
+add-result-2 c = search needs
+
+returns-2 : tie.Need-returns-2
+returns-2 c = high-digit _ (c .if1 .left)
+
+pub digit-byte-spec : {M : Type 1} → statement M
+digit-byte-spec =
+    tie.close (tie.spec cast-result add-result returns cast-result-2 add-result-2 returns-2)

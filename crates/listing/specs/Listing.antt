@@ -1,0 +1,140 @@
+-- Document 01, "Millionths and the job program": the listing of an answer, and the line of a refusal. Definitions only.
+use Prim.Native.Nat.{ℕ, zero, suc, _≤_, _+_, _/_, _%_}
+use mathlib.Core.Path.{_≡_}
+use mathlib.Core.Bool.{Bool, not, cond}
+use mathlib.Core.List.{List, [], _∷_, _++_}
+use lib.Dec.{leb, ltb, eqb}
+use lib.ListN.{length, getD, drop}
+use lib.Ieee.{Float, nan, binary64, toBits}
+use Rattle.refusal.specs.Table.{Line, first, andThen}
+use Rattle.refusal.specs.Telling.{Telling, accepts, refuses, tells}
+use Rattle.refusal.specs.declared.Refusal.the-variants.{DimensionMismatch, OverLimit, ShortBuffer, WeightOutOfRange, NoTree, MalformedText}
+use Rattle.refusal.specs.declared.Outcome.{Outcome}
+use Rattle.refusal.specs.declared.Outcome.the-variants as outcome
+use Rattle.lent.specs.Lent.{most-assets, laid}
+use Rattle.text.specs.Bytes.{bytes}
+use Rattle.fields.specs.Split.{newline, tabulator, firstPiece, all}
+use Rattle.millionths.specs.Millionths.{millionthsOf, partOf, inRange}
+use Rattle.tree.specs.Rows.{isOrder}
+use Rattle.reading.specs.Reading.{most-bytes}
+use Rattle.listing.specs.declared.Listed.{Listed}
+use Rattle.listing.specs.declared.Listed.the-variants as listed
+
+-- a digit of base 10 or 16 as a byte: 0 to 9, then a to f
+unfoldable pub digitByte : ℕ → ℕ
+digitByte d = cond (ltb d 10) (d + 48) (d + 87)
+
+-- the k last digits of a number
+unfoldable pub digits : ℕ → ℕ → ℕ → List ℕ
+unfolding digitByte
+digits base zero n = []
+digits base (suc k) n = digits base k (n / base) ++ (digitByte (n % base) ∷ [])
+
+-- how many decimal digits a number takes, if they are at most k + 1
+unfoldable pub places : ℕ → ℕ → ℕ
+places zero n = 1
+places (suc k) n = cond (ltb n 10) 1 (suc (places k (n / 10)))
+
+-- a number of at most 7 decimal digits, as text
+unfoldable pub decimal : ℕ → List ℕ
+unfolding places digits
+decimal n = digits 10 (places 6 n) n
+
+-- the 16 hex digits of a pattern of 64 bits
+unfoldable pub hexOf : ℕ → List ℕ
+unfolding digits
+hexOf n = digits 16 16 n
+
+-- f 0, f 1, .., f (n - 1), one after the other
+unfoldable pub joined : ℕ → (ℕ → List ℕ) → List ℕ
+joined zero f = []
+joined (suc n) f = joined n f ++ f n
+
+-- "prints name, weight bits, millionths": "An answer that is NaN has the bits 7ff8000000000000"
+unfoldable pub assetLine : List ℕ → Float → ℕ → List ℕ
+unfolding decimal hexOf
+assetLine name w m = name ++ (tabulator ∷ []) ++ hexOf (toBits binary64 w) ++ (tabulator ∷ []) ++ decimal m ++ (newline ∷ [])
+
+-- a line for each weight
+unfoldable pub lineOf : (ℕ → List ℕ) → List Float → ℕ → List ℕ
+unfolding assetLine
+lineOf name ws i = assetLine (name i) (getD ws i nan) (partOf (millionthsOf (getD ws i nan)))
+
+-- "then the leaf order"
+unfoldable pub ordered : (ℕ → List ℕ) → List ℕ → ℕ → List ℕ
+ordered name order k = (tabulator ∷ []) ++ name (getD order k 0)
+
+unfoldable pub listing : (ℕ → List ℕ) → List Float → List ℕ → List ℕ
+unfolding joined lineOf ordered
+listing name ws order = joined (length ws) (lineOf name ws) ++ (bytes "order" ++ joined (length order) (ordered name order) ++ (newline ∷ []))
+
+-- "a refusal prints `refused`, tab, number"
+unfoldable pub refusalLine : ℕ → List ℕ
+unfolding decimal
+refusalLine k = bytes "refused" ++ (tabulator ∷ []) ++ decimal k ++ (newline ∷ [])
+
+-- ---- what a call answers that writes bytes into a lent buffer: how many, or the refusal
+
+unfoldable pub listedAs : Outcome → ℕ → Listed
+listedAs outcome.Done bytes = listed.Sheet bytes
+listedAs (outcome.Refused r) bytes = listed.Refused r
+
+-- a refusal has no bytes
+abbrev pub bytesIn : Listed → ℕ
+bytesIn (listed.Sheet bytes) = bytes
+bytesIn (listed.Refused r) = 0
+
+-- what the answer tells: 0 and how many bytes, or the refusal's number
+abbrev pub listedTells : Listed → Telling ℕ
+listedTells (listed.Sheet bytes) = accepts bytes
+listedTells (listed.Refused r) = refuses r
+
+-- such a call, which would write s, by how it went: s at the front of the buffer and zeros after it; "leaves every lent answer .. entry zero" where it is refused
+pub record ListingMade (o : Outcome) (s : List ℕ) (room : ℕ) (r : Listed) (out : List ℕ) : Type 0 where
+  pub answer : r ≡ listedAs o (length s)
+  pub bytes-are : out ≡ laid 0 o room s
+  pub within : bytesIn r ≤ length out
+  pub told : listedTells r ≡ tells o (length s)
+
+-- ---- the listing of the assets whose lines begin at `starts` in a text, by their weights and their leaf order
+
+-- the name on a line: what stands from its start to the first tab or the line's end
+unfoldable pub nameIn : List ℕ → List ℕ → ℕ → List ℕ
+unfolding firstPiece
+nameIn text starts i = firstPiece tabulator (firstPiece newline (drop (getD starts i 0) text))
+
+-- "a name of 1 to 16 bytes": one of more has no place in a listing
+unfoldable pub isShort : List ℕ → ℕ → Bool
+unfolding firstPiece
+isShort text start = leb (length (firstPiece tabulator (firstPiece newline (drop start text)))) 16
+
+-- 8,192 bytes hold every listing
+abbrev pub least-listing : ℕ
+least-listing = 8192
+
+-- 9 of the text and of the assets, 11; then 3: a weight for each asset; 14: "a given leaf order isn't each asset once"; 15
+unfoldable pub sheetLines : List ℕ → List ℕ → ℕ → List ℕ → ℕ → List Line
+unfolding isOrder all isShort
+sheetLines text starts count order room =
+    (ltb most-bytes (length text), OverLimit)
+    ∷ (ltb most-assets (length starts), OverLimit)
+    ∷ (ltb room least-listing, ShortBuffer)
+    ∷ (not (eqb count (length starts)), DimensionMismatch)
+    ∷ (not (isOrder order (length starts)), NoTree)
+    ∷ (not (all (isShort text) starts), MalformedText)
+    ∷ []
+
+-- "a weight to be put in millionths is NaN, below 0 or above 1" (13)
+unfoldable pub rangeTable : List Float → List Line
+unfolding all inRange
+rangeTable ws = (not (all inRange ws), WeightOutOfRange) ∷ []
+
+unfoldable pub sheetOutcome : List ℕ → List ℕ → List Float → List ℕ → ℕ → Outcome
+unfolding sheetLines rangeTable
+sheetOutcome text starts ws order room = andThen (first (sheetLines text starts (length ws) order room)) (first (rangeTable ws))
+
+-- ---- the line of a refusal of a number, into a buffer of `room` bytes: 11 where it does not fit
+
+unfoldable pub refusalOutcome : ℕ → ℕ → Outcome
+unfolding refusalLine
+refusalOutcome k room = first ((ltb room (length (refusalLine k)), ShortBuffer) ∷ [])
