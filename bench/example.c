@@ -54,13 +54,22 @@ static void print_sheet(void)
     printf("\n");
 }
 
+/* The line that the program weights prints for a refusal: refused, tab, number. */
+static void print_refusal(uint8_t refusal)
+{
+    uint8_t line[16];
+    size_t bytes;
+    if (rovignesc_refusal_line(refusal, line, sizeof line, &bytes, 1) == 0)
+        fwrite(line, 1, bytes, stdout);
+}
+
 static void play(uint8_t clusters_given, size_t clusters)
 {
     uint8_t refusal = allocate(clusters_given, clusters);
     if (refusal == 0)
         print_sheet();
     else
-        printf("refused: %u\n", refusal);
+        print_refusal(refusal);
     if (refusal == 6)
         printf("%zu clusters were asked for, of %zu assets\n", asked[0], asked[1]);
 }

@@ -1,7 +1,8 @@
 /* Rovignesc: the engine for C. Link target/native/libcapi.a (bench/native-staticlib capi builds it for this machine).
 
    Every call takes any input. It answers document 01's refusal number, or 0 where the job is accepted.
-   After a refusal every lent answer and scratch entry is zero; after an accepted job everything past the answer is, and all scratch.
+   After a refusal every lent answer and scratch entry is zero; after an accepted job everything past the answer is, and all scratch. The one thing that
+   is not zero after a refusal are the two numbers of asked after 6: document 01 has that refusal return them, and a C call can return them nowhere else.
    Inputs never change. A slice is a pointer and its number of entries; where that is 0 the pointer is not read.
    The lent buffers of one call must not overlap each other or its inputs.
 
@@ -42,8 +43,8 @@ uint8_t rovignesc_hrp(size_t assets,
 
 /* Hierarchical clustering-based asset allocation: the tree, its leaf order and the weights. expected_given and clusters_given are flags:
    without clusters the tree is split down to single assets. confidence is the part of the days that expected_shortfall and
-   conditional_drawdown_risk count as bad, from 0 to 1 (else 17, after 16 where there are no return rows); no other metric reads it. asked has room for two numbers (else 11): after refusal 6 the clusters that were
-   asked for and the assets, else zeros. */
+   conditional_drawdown_risk count as bad, from 0 to 1 (else 17, after 16 where there are no return rows); no other metric reads it. asked has room for
+   two numbers (else 11): after refusal 6 the clusters that were asked for and the assets, else zeros. */
 uint8_t rovignesc_hcaa(size_t assets,
                        const double *prices, size_t prices_len, uint8_t prices_given, size_t prices_rows, size_t prices_columns,
                        const double *returns, size_t returns_len, uint8_t returns_given, size_t returns_rows, size_t returns_columns,
@@ -77,11 +78,17 @@ uint8_t rovignesc_quasi_diagonalization(const size_t *rows, size_t rows_len, siz
                                         size_t *order, size_t order_len,
                                         size_t *leaves, size_t leaves_len);
 
-/* A job text to its listing, a refusal's listing too ("refused", tab, number, newline). The listing takes at least 8192 bytes (else 11, and
-   there is none); bytes has room for one number (else 11): how many bytes of it there are. */
+/* A job text to its listing. The listing takes at least 8192 bytes (else 11); bytes has room for one number (else 11): how many bytes of it there
+   are. A refused text has no listing: every byte is zero, and the number too. */
 uint8_t rovignesc_listing(const uint8_t *text, size_t text_len,
                           uint8_t *listing, size_t listing_len,
                           size_t *bytes, size_t bytes_len);
+
+/* The line of a refusal's number: "refused", tab, number, newline, 12 bytes at most. The line takes as many (else 11); bytes has room for one number
+   (else 11): how many bytes of it there are. */
+uint8_t rovignesc_refusal_line(uint8_t number,
+                               uint8_t *line, size_t line_len,
+                               size_t *bytes, size_t bytes_len);
 
 #ifdef __cplusplus
 }

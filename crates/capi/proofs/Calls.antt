@@ -1,128 +1,81 @@
 -- How each call ends: what is refused before the call behind is made, and what that call says. Assumes nothing.
-use Prim.Native.Nat.{ℕ, suc, _-_, _*_, _<_, _≤_}
+use Prim.Native.Nat.{ℕ, zero, suc, _-_, _*_, _<_, _≤_}
 use mathlib.Core.Path.{_≡_, refl, sym, ap, _∙_}
 use mathlib.Core.Bool.{Bool, true, false, cond}
 use mathlib.Core.List.{List, [], _∷_, _++_}
 use native.Mathlib.Omega.{arith}
 use borrow.Author.Tests.{ltb-false, lt-ltb, le-ltb}
 use lib.Dec.{ltb}
-use lib.ListN.{length, getD, set, length-replicate}
+use lib.ListN.{length, set, take, length-replicate}
 use lib.Ieee.{Float}
 use Rattle.arithmetic.specs.Constants.{pz}
-use Rattle.refusal.specs.Refusal.{valuesOf}
-use Rattle.refusal.specs.Table.{Line, first, orElse, andThen}
+use Rattle.refusal.specs.Table.{Line, first, andThen}
+use Rattle.refusal.specs.Telling.{Telling}
 use Rattle.refusal.specs.declared.Refusal.{Refusal}
-use Rattle.refusal.specs.declared.Refusal.the-variants.{NoData, UnknownAllocationMetric, DimensionMismatch, MissingExpectedReturnsForSharpe, UnknownReturns, InvalidNumClusters, UnknownDistance, UnknownLinkage, OverLimit, SliceLength, ShortBuffer, WeightOutOfRange, NoTree, MalformedText, MissingReturnsForTailRisk, ConfidenceOutOfRange}
+use Rattle.refusal.specs.declared.Refusal.the-variants.{OverLimit, ShortBuffer}
 use Rattle.refusal.specs.declared.Outcome.{Outcome}
 use Rattle.refusal.specs.declared.Outcome.the-variants.{Done, Refused}
-use Rattle.refusal.proofs.Tables.{none, first-append, then-done, then-refused}
+use Rattle.refusal.proofs.Tables.{done-refused, none, table-hit, table-pass, then-done, then-refused}
 use Rattle.lent.specs.Grid.{noughts, over}
-use Rattle.lent.specs.Lent.{sizes, answerOf, toldOf}
+use Rattle.lent.specs.Lent.{answerOf, toldOf, laid}
 use Rattle.lent.specs.declared.Shape.{Shape}
 use Rattle.lent.specs.declared.Answer.{Answer}
 use Rattle.lent.specs.declared.Answer.the-variants as answer
-use Rattle.lent.proofs.Laws.{over-push, over-replicate}
+use Rattle.lent.proofs.Laws.{over-push}
 use Rattle.lent.proofs.Sizes.{laid-done, laid-refused, told-as}
 use Rattle.inputs.specs.Inputs.{matrixLines}
 use Rattle.inputs.proofs.Laws.{answer-refused}
-use Rattle.tree.specs.Order.{orderOutcome, orderAnswer, orderOf}
+use Rattle.tree.specs.Order.{orderOutcome, orderAnswer, orderLaid}
 use Rattle.linkage.specs.Names.{distanceNamed, linkageNamed}
 use Rattle.linkage.specs.Children.{childrenOutcome, childrenAnswer, childrenRows}
 use Rattle.linkage.specs.declared.Linkage.{Linkage}
-use Rattle.parity.specs.Parity.{Room, roomLines, Cleared}
-use Rattle.hrp.specs.Hrp.{Job, job, outcomeOf, Allocated}
+use Rattle.parity.specs.Parity.{ParityRoom, parityRoomLines, ParityCleared}
+use Rattle.hrp.specs.Hrp.{HrpJob, hrpJob, hrpOutcome, HrpAllocated}
 use Rattle.hrp.proofs.Judged.{cleared}
 use Rattle.linkage.specs.declared.Distance.{Distance}
 use Rattle.hierarchy.specs.Hierarchy as hierarchy
 use Rattle.hcaa.specs.Hcaa as hcaa
 use Rattle.hcaa.specs.declared.Clusters.{Clusters}
-use Rattle.job.specs.Job.{textTable, jobOutcome, listingOf, listingLaid, toldAs, listedOf, bytesIn}
-use Rattle.job.specs.declared.Listed.{Listed}
-use Rattle.capi.specs.Capi.{numberIn, distanceSays, linkageSays, distanceOf, linkageOf, hrpOutcome, HrpAnswer, askedLines, askedLaid, hcaaOutcome, HcaaAnswer, mergeSizes, mergeOutcome, MergeAnswer, leafSizes, leafOutcome, LeafAnswer, numberListed, byteLines, listingOutcome, ListingAnswer}
-use Rattle.capi.proofs.Stages.{then-assoc, one-line}
+use Rattle.metrics.specs.declared.Metric.the-variants.{EqualWeighting}
+use Rattle.equal.specs.Equal.{EqualShares}
+use Rattle.listing.specs.Listing.{refusalLine, listedAs, bytesIn, listedTells, ListingMade, refusalOutcome}
+use Rattle.listing.specs.declared.Listed.{Listed}
+use Rattle.job.specs.Job.{textTable, jobOutcome, listingOf, TextListed}
+use Rattle.foreign.specs.Foreign.{distanceSays, linkageSays, distanceMeant, linkageMeant, askedLines, askedLaid, mergeSizes, leafSizes, byteLines}
+use Rattle.foreign.proofs.Stages.{then-assoc, numberIn, told-number}
+use Rattle.foreign.proofs.Judges.{blank-length, number-done}
+use Rattle.capi.specs.Capi.{namedHrpOutcome, HrpAnswer, namedHcaaOutcome, HcaaAnswer, mergeOutcome, MergeAnswer, leafOutcome, LeafAnswer, listingOutcome, ListingAnswer, countLines, lineOutcome, LineAnswer}
 
 -- ---- hierarchical risk parity: the shapes are read from the flags, and the distance from its name
 
-module _ (n : ℕ) (p : List Float) (ps ps′ : Shape) (ep : ps ≡ ps′) (xs : List Float) (rs rs′ : Shape) (er : rs ≡ rs′) (c : List Float) (cs cs′ : Shape) (ec : cs ≡ cs′) (by : List ℕ) (shrink : Bool) (name : List ℕ) (room : Room) (said : Outcome)
-    (e : said ≡ andThen (first (matrixLines n ps (length p) rs (length xs) cs (length c))) (andThen (first (roomLines n room)) (distanceSays (distanceNamed name)))) where
-  abbrev call : Job
-  call = job n p ps′ xs rs′ c cs′ by shrink (distanceOf (distanceNamed name))
+module _ (n : ℕ) (p : List Float) (ps ps′ : Shape) (ep : ps ≡ ps′) (xs : List Float) (rs rs′ : Shape) (er : rs ≡ rs′) (c : List Float) (cs cs′ : Shape) (ec : cs ≡ cs′) (by : List ℕ) (shrink : Bool) (name : List ℕ) (room : ParityRoom) (said : Outcome)
+    (e : said ≡ andThen (first (matrixLines n ps (length p) rs (length xs) cs (length c))) (andThen (first (parityRoomLines n room)) (distanceSays (distanceNamed name)))) where
+  abbrev call : HrpJob
+  call = hrpJob n p ps′ xs rs′ c cs′ by shrink (distanceMeant (distanceNamed name))
 
-  hrp-stages : hrpOutcome call name room ≡ andThen said (outcomeOf call room)
-  unfolding hrpOutcome
+  hrp-stages : namedHrpOutcome call name room ≡ andThen said (hrpOutcome call room)
+  unfolding namedHrpOutcome
   hrp-stages = rw (e, ep, er, ec) (simp then-assoc)
 
   module _ (r : ℕ) (rows order : List ℕ) (weights correlations distances scratch : List Float) where
-    pub hrp-refused : (k : Refusal) → said ≡ Refused k → r ≡ numberIn said → Cleared room rows order weights correlations distances scratch
+    pub hrp-refused : (k : Refusal) → said ≡ Refused k → r ≡ numberIn said → ParityCleared room rows order weights correlations distances scratch
         → HrpAnswer call name room r rows order weights correlations distances scratch
     hrp-refused k h a z =
-        let o : hrpOutcome call name room ≡ Refused k = hrp-stages ∙ then-refused said _ k h in
+        let o : namedHrpOutcome call name room ≡ Refused k = hrp-stages ∙ then-refused said _ k h in
         record { answer = a ∙ ap numberIn (h ∙ sym o); buffers = cleared _ k _ _ n room rows order weights correlations distances scratch o z }
 
-    pub hrp-done : said ≡ Done → (o : Outcome) → r ≡ numberIn o → Allocated (job n p ps xs rs c cs by shrink (distanceOf (distanceNamed name))) room o rows order weights correlations distances scratch
+    pub hrp-done : said ≡ Done → (o : Outcome) → r ≡ numberIn o → HrpAllocated (hrpJob n p ps xs rs c cs by shrink (distanceMeant (distanceNamed name))) room o rows order weights correlations distances scratch
         → HrpAnswer call name room r rows order weights correlations distances scratch
     hrp-done h o a z =
-        let s : hrpOutcome call name room ≡ outcomeOf call room = hrp-stages ∙ then-done said _ h in
-        let y : Allocated call room o rows order weights correlations distances scratch = rw (ep, er, ec) at z in
+        let s : namedHrpOutcome call name room ≡ hrpOutcome call room = hrp-stages ∙ then-done said _ h in
+        let y : HrpAllocated call room o rows order weights correlations distances scratch = rw (ep, er, ec) at z in
         record { answer = a ∙ ap numberIn (y .answer ∙ sym s); buffers = rw s (y .buffers) }
 
 -- ---- hierarchical clustering-based asset allocation: the shapes are read from the flags, the number of clusters too, and the linkage and the distance from their names
 
--- what the code joins is the stages in their order
-pub hcaa-judged : (m r l d : Outcome) (count : ℕ) (a b x y z u v o : Outcome) → a ≡ m → b ≡ r → x ≡ l → y ≡ d → z ≡ andThen x y → u ≡ orElse (ltb count 2) ShortBuffer z → v ≡ andThen b u → o ≡ andThen a v
-    → o ≡ andThen m (andThen r (andThen (first (askedLines count)) (andThen l d)))
-unfolding askedLines
-hcaa-judged m r l d count a b x y z u v o ea eb ex ey ez eu ev eo = rw (eo, ev, eu, ez, ey, ex, eb, ea, one-line)
-
-no-values : (n : ℕ) → noughts n ≡ noughts (n - 0)
-no-values n = ap noughts (let e : n ≡ n - 0 = omega arith in e)
-
--- refusal 6 has two values, and no other refusal has any
-values-put : (m : ℕ) (r : Refusal) → set (set (noughts (suc (suc m))) 0 (getD (valuesOf r) 0 0)) 1 (getD (valuesOf r) 1 0) ≡ valuesOf r ++ noughts (suc (suc m) - length (valuesOf r))
-values-put m NoData = no-values (suc (suc m))
-values-put m UnknownAllocationMetric = no-values (suc (suc m))
-values-put m DimensionMismatch = no-values (suc (suc m))
-values-put m MissingExpectedReturnsForSharpe = no-values (suc (suc m))
-values-put m UnknownReturns = no-values (suc (suc m))
-values-put m (InvalidNumClusters k n) = ap (λ x. k ∷ n ∷ noughts x) (let e : m ≡ suc (suc m) - 2 = omega arith in e)
-values-put m UnknownDistance = no-values (suc (suc m))
-values-put m UnknownLinkage = no-values (suc (suc m))
-values-put m OverLimit = no-values (suc (suc m))
-values-put m SliceLength = no-values (suc (suc m))
-values-put m ShortBuffer = no-values (suc (suc m))
-values-put m WeightOutOfRange = no-values (suc (suc m))
-values-put m NoTree = no-values (suc (suc m))
-values-put m MalformedText = no-values (suc (suc m))
-values-put m MissingReturnsForTailRisk = no-values (suc (suc m))
-values-put m ConfidenceOutOfRange = no-values (suc (suc m))
-
-blank-length : (room : ℕ) (blank : List ℕ) → blank ≡ noughts room → length blank ≡ room
-blank-length room blank z = ap length z ∙ length-replicate {A = ℕ} room 0
-
--- its numbers beside it: the buffer is cleared to blank before
-module _ (room : ℕ) (said : Outcome) (blank : List ℕ) (z : blank ≡ noughts room) where
-  pub tell-done : said ≡ Done → blank ≡ askedLaid said room
-  unfolding askedLaid
-  tell-done h = rw (z, h) (go (ltb room 2))
-    where
-      go : (t : Bool) → noughts room ≡ cond t (noughts room) (noughts (room - 0))
-      go true = refl
-      go false = no-values room
-
-  pub tell-short : length blank < 2 → blank ≡ askedLaid said room
-  unfolding askedLaid
-  tell-short h = rw (lt-ltb room 2 (omega (arith, h, blank-length room blank z))) z
-
-  pub tell-put : 2 ≤ length blank → (k : Refusal) → said ≡ Refused k → (x y : ℕ) → x ≡ getD (valuesOf k) 0 0 → y ≡ getD (valuesOf k) 1 0 → set (set blank 0 x) 1 y ≡ askedLaid said room
-  unfolding askedLaid
-  tell-put h k e x y ex ey =
-      let long : 2 ≤ room = omega (arith, h, blank-length room blank z) in
-      let m : room ≡ suc (suc (room - 2)) = omega (arith, long) in
-      rw (e, le-ltb room 2 long, z, ex, ey, m) (values-put (room - 2) k)
-
 -- buffers that are cleared are what a refusal leaves
-hcaa-cleared : (o : Outcome) (k : Refusal) (q : hierarchy.Rule) (d : Distance) (l : Linkage) (cov : List Float) (n : ℕ) (room : hierarchy.Room) (rows order : List ℕ) (weights scratch : List Float)
-    → o ≡ Refused k → hierarchy.Cleared room rows order weights scratch → hierarchy.Laid o q d l cov n room rows order weights scratch
+hcaa-cleared : (o : Outcome) (k : Refusal) (q : hierarchy.Rule) (d : Distance) (l : Linkage) (cov : List Float) (n : ℕ) (room : hierarchy.HierarchyRoom) (rows order : List ℕ) (weights scratch : List Float)
+    → o ≡ Refused k → hierarchy.HierarchyCleared room rows order weights scratch → hierarchy.HierarchyLaid o q d l cov n room rows order weights scratch
 hcaa-cleared o k q d l cov n room rows order weights scratch e z =
     record {
       rows-are = z .rows-are ∙ laid-refused 0 o k _ _ e;
@@ -131,46 +84,48 @@ hcaa-cleared o k q d l cov n room rows order weights scratch e z =
       scratch-is = z .scratch-is;
     }
 
-module _ (n : ℕ) (p : List Float) (ps ps′ : Shape) (ep : ps ≡ ps′) (xs : List Float) (rs rs′ : Shape) (er : rs ≡ rs′) (c : List Float) (cs cs′ : Shape) (ec : cs ≡ cs′) (e : List Float) (given : Bool) (metric method : List ℕ) (conf : Float)
-    (k : Clusters) (by link name : List ℕ) (room : hierarchy.Room) (count : ℕ) (said : Outcome)
-    (f : said ≡ andThen (first (matrixLines n ps (length p) rs (length xs) cs (length c))) (andThen (first (hierarchy.roomLines n room)) (andThen (first (askedLines count)) (andThen (linkageSays (linkageNamed link)) (distanceSays (distanceNamed name)))))) where
-  abbrev split : hcaa.Job
-  split = hcaa.job n p ps′ xs rs′ c cs′ e given metric method conf k by (distanceOf (distanceNamed name)) (linkageOf (linkageNamed link))
+-- demand 3, by the number
+equal-for : (j : hcaa.HcaaJob) (o : Outcome) (r : ℕ) (rows : List ℕ) (weights : List Float) → r ≡ numberIn o → hcaa.Equally j o rows weights → r ≡ 0 → hcaa.usedMetric j ≡ EqualWeighting
+    → EqualShares (j .assets) (hcaa.clusterCount (j .clusters) (j .assets)) (take (2 * (j .assets - 1)) rows) (take (j .assets) weights)
+equal-for j o r rows weights a q e m = q .shares (number-done o (sym a ∙ e)) m
 
-  hcaa-stages : hcaaOutcome split link name room count ≡ andThen said (hcaa.outcomeOf split room)
-  unfolding hcaaOutcome
+module _ (n : ℕ) (p : List Float) (ps ps′ : Shape) (ep : ps ≡ ps′) (xs : List Float) (rs rs′ : Shape) (er : rs ≡ rs′) (c : List Float) (cs cs′ : Shape) (ec : cs ≡ cs′) (e : List Float) (given : Bool) (metric method : List ℕ) (conf : Float)
+    (k : Clusters) (by link name : List ℕ) (room : hierarchy.HierarchyRoom) (count : ℕ) (said : Outcome)
+    (f : said ≡ andThen (first (matrixLines n ps (length p) rs (length xs) cs (length c))) (andThen (first (hierarchy.hierarchyRoomLines n room)) (andThen (first (askedLines count)) (andThen (linkageSays (linkageNamed link)) (distanceSays (distanceNamed name)))))) where
+  abbrev split : hcaa.HcaaJob
+  split = hcaa.hcaaJob n p ps′ xs rs′ c cs′ e given metric method conf k by (distanceMeant (distanceNamed name)) (linkageMeant (linkageNamed link))
+
+  hcaa-stages : namedHcaaOutcome split link name room count ≡ andThen said (hcaa.hcaaOutcome split room)
+  unfolding namedHcaaOutcome
   hcaa-stages = rw (f, ep, er, ec) (simp then-assoc)
 
   module _ (r : ℕ) (rows order : List ℕ) (weights scratch : List Float) (asked : List ℕ) where
-    pub hcaa-refused : (q : Refusal) → said ≡ Refused q → r ≡ numberIn said → asked ≡ askedLaid said count → hierarchy.Cleared room rows order weights scratch
+    pub hcaa-refused : (q : Refusal) → said ≡ Refused q → r ≡ numberIn said → asked ≡ askedLaid said count → hierarchy.HierarchyCleared room rows order weights scratch
         → HcaaAnswer split link name room count r rows order weights scratch asked
     hcaa-refused q h a t z =
-        let o : hcaaOutcome split link name room count ≡ Refused q = hcaa-stages ∙ then-refused said _ q h in
+        let o : namedHcaaOutcome split link name room count ≡ Refused q = hcaa-stages ∙ then-refused said _ q h in
         record {
           answer = a ∙ ap numberIn (h ∙ sym o);
           buffers = hcaa-cleared _ q _ _ _ _ n room rows order weights scratch o z;
           asked-is = t ∙ ap (λ x. askedLaid x count) (h ∙ sym o);
+          equal-shares = equal-for split _ r rows weights (a ∙ ap numberIn (h ∙ sym o)) (record { shares = λ d m. absurd (done-refused q (sym d ∙ o)) });
         }
 
-    pub hcaa-done : said ≡ Done → (k′ : Clusters) → k′ ≡ k → (d : Distance) → d ≡ distanceOf (distanceNamed name) → (l : Linkage) → l ≡ linkageOf (linkageNamed link)
-        → (o : Outcome) → r ≡ numberIn o → asked ≡ askedLaid o count → hcaa.Allocated (hcaa.job n p ps xs rs c cs e given metric method conf k′ by d l) room o rows order weights scratch
+    pub hcaa-done : said ≡ Done → (k′ : Clusters) → k′ ≡ k → (d : Distance) → d ≡ distanceMeant (distanceNamed name) → (l : Linkage) → l ≡ linkageMeant (linkageNamed link)
+        → (o : Outcome) → r ≡ numberIn o → asked ≡ askedLaid o count → hcaa.HcaaAllocated (hcaa.hcaaJob n p ps xs rs c cs e given metric method conf k′ by d l) room o rows order weights scratch
         → HcaaAnswer split link name room count r rows order weights scratch asked
     hcaa-done h k′ ek d ed l el o a t z =
-        let s : hcaaOutcome split link name room count ≡ hcaa.outcomeOf split room = hcaa-stages ∙ then-done said _ h in
-        let y : hcaa.Allocated split room o rows order weights scratch = rw (ep, er, ec, ek, ed, el) at z in
-        let v : o ≡ hcaaOutcome split link name room count = y .answer ∙ sym s in
-        record { answer = a ∙ ap numberIn v; buffers = rw s (y .buffers); asked-is = t ∙ ap (λ x. askedLaid x count) v }
+        let s : namedHcaaOutcome split link name room count ≡ hcaa.hcaaOutcome split room = hcaa-stages ∙ then-done said _ h in
+        let y : hcaa.HcaaAllocated split room o rows order weights scratch = rw (ep, er, ec, ek, ed, el) at z in
+        let v : o ≡ namedHcaaOutcome split link name room count = y .answer ∙ sym s in
+        record {
+          answer = a ∙ ap numberIn v;
+          buffers = rw s (y .buffers);
+          asked-is = t ∙ ap (λ x. askedLaid x count) v;
+          equal-shares = equal-for split o r rows weights a (y .equally);
+        }
 
 -- ---- the merge step
-
--- what the code joins is the lines of its sizes, and then the name
-pub merge-judged : (len rows w room : ℕ) (name : List ℕ) (sized : Outcome) (short : Bool) (known rest : Outcome)
-    → sized ≡ first (sizes len rows w) → short ≡ ltb room (2 * (w - 1)) → known ≡ linkageSays (linkageNamed name) → rest ≡ orElse short ShortBuffer known
-    → andThen sized rest ≡ andThen (first (mergeSizes len rows w room)) (linkageSays (linkageNamed name))
-unfolding mergeSizes
-merge-judged len rows w room name sized short known rest a b d e =
-    let l : List Line = (ltb room (2 * (w - 1)), ShortBuffer) ∷ [] in
-    rw (a, e, b, d, one-line, first-append (sizes len rows w) l) (simp then-assoc)
 
 module _ (xs : List Float) (rows w : ℕ) (name : List ℕ) (room : ℕ) (said : Outcome)
     (e : said ≡ andThen (first (mergeSizes (length xs) rows w room)) (linkageSays (linkageNamed name))) (r : ℕ) (out : List ℕ) where
@@ -183,7 +138,7 @@ module _ (xs : List Float) (rows w : ℕ) (name : List ℕ) (room : ℕ) (said :
       let o : mergeOutcome xs rows w name room ≡ Refused k = merge-stages ∙ then-refused said _ k h in
       record { answer = a ∙ ap numberIn (h ∙ sym o); rows-are = z ∙ laid-refused 0 _ k _ _ o }
 
-  pub merge-done : said ≡ Done → (l : Linkage) → l ≡ linkageOf (linkageNamed name) → (a : Answer) → a ≡ childrenAnswer xs rows w room → (o : Outcome) → o ≡ toldOf a → r ≡ numberIn o → out ≡ childrenRows l xs rows w room
+  pub merge-done : said ≡ Done → (l : Linkage) → l ≡ linkageMeant (linkageNamed name) → (a : Answer) → a ≡ childrenAnswer xs rows w room → (o : Outcome) → o ≡ toldOf a → r ≡ numberIn o → out ≡ childrenRows l xs rows w room
       → MergeAnswer xs rows w name room r out
   unfolding childrenAnswer childrenRows
   merge-done h l el a ea o eo q z =
@@ -219,9 +174,9 @@ module _ (rows : List ℕ) (n v room count : ℕ) (said : Outcome) (blank : List
     unfolding leafOutcome
     leaf-rest = then-done (first (leafSizes n room count)) _ (sym e ∙ h)
 
-    module _ (a : Answer) (ea : a ≡ orderAnswer rows n v room) (order : List ℕ) (eo : order ≡ orderOf rows n v room) where
+    module _ (a : Answer) (ea : a ≡ orderAnswer rows n v room) (order : List ℕ) (eo : order ≡ orderLaid rows n v room) where
       pub leaf-told : (k : Refusal) → a ≡ answer.Refused k → (o : Outcome) → o ≡ toldOf a → (r : ℕ) → r ≡ numberIn o → LeafAnswer rows n v room count r order blank
-      unfolding orderAnswer orderOf
+      unfolding orderAnswer orderLaid
       leaf-told k g o t r q =
           let s : leafOutcome rows n v room count ≡ Refused k = leaf-rest ∙ answer-refused _ _ _ k (sym ea ∙ g) in
           record {
@@ -231,7 +186,7 @@ module _ (rows : List ℕ) (n v room count : ℕ) (said : Outcome) (blank : List
           }
 
       pub leaf-made : (k m : ℕ) → a ≡ answer.Matrix k m → LeafAnswer rows n v room count 0 order (set blank 0 m)
-      unfolding orderAnswer orderOf over
+      unfolding orderAnswer orderLaid over
       leaf-made k m g =
           let b = answer-columns _ _ _ k m (sym ea ∙ g) in
           let s : leafOutcome rows n v room count ≡ Done = leaf-rest ∙ b .0 in
@@ -242,17 +197,26 @@ module _ (rows : List ℕ) (n v room count : ℕ) (said : Outcome) (blank : List
             leaves-are = w ∙ rw (z, ← b .1) (laid-done 0 _ count (m ∷ []) s);
           }
 
--- ---- a job text to its listing: the place for its number of bytes is cleared to blank before
+-- ---- a job text to its listing, and a refusal's line: the place for the number of bytes is cleared to blank before
 
-told-number : (o : Outcome) (k : ℕ) → numberListed (toldAs o k) ≡ numberIn o
-unfolding toldAs
-told-number Done k = refl
-told-number (Refused r) k = refl
+nothing-put : (count : ℕ) → 1 ≤ count → set (noughts count) 0 0 ≡ noughts count
+nothing-put zero h = absurd (omega arith)
+nothing-put (suc m) h = refl
 
-told-bytes : (o : Outcome) (k : ℕ) → bytesIn (toldAs o k) ≡ k
-unfolding toldAs
-told-bytes Done k = refl
-told-bytes (Refused r) k = refl
+module _ (o : Outcome) (s : List ℕ) (room count : ℕ) (blank : List ℕ) (z : blank ≡ noughts count) (l : Listed) (out : List ℕ) (y : ListingMade o s room l out) where
+  bytes-put : 1 ≤ count → (k : ℕ) → k ≡ bytesIn l → set blank 0 k ≡ laid 0 o count (length s ∷ [])
+  unfolding over listedAs
+  bytes-put h k e = ap (λ (n : ℕ). set blank 0 n) (e ∙ ap bytesIn (y .answer)) ∙ go o
+    where
+      place : 0 < length blank
+      place = omega (arith, blank-length count blank z)
+
+      go : (x : Outcome) → set blank 0 (bytesIn (listedAs x (length s))) ≡ laid 0 x count (length s ∷ [])
+      go Done = over-push [] blank 0 (length s) refl place ∙ ap (over (length s ∷ [])) z ∙ laid-done 0 Done count (length s ∷ []) refl
+      go (Refused r) = ap (λ (x : List ℕ). set x 0 0) z ∙ nothing-put count h ∙ laid-refused 0 (Refused r) r count (length s ∷ []) refl
+
+  number-told : (r : ℕ) → r ≡ listedTells l .number → r ≡ numberIn o
+  number-told r e = e ∙ ap (λ (t : Telling ℕ). t .number) (y .told) ∙ told-number o (length s)
 
 -- a last line that is true decides; one that is false leaves what is judged once more
 last-line : (t : Bool) (q k : Refusal) (o : Outcome) → first ((t, q) ∷ (true, k) ∷ []) ≡ andThen (first ((t, q) ∷ (true, k) ∷ [])) o
@@ -269,26 +233,57 @@ pub listing-outcome : (text : List ℕ) (room count : ℕ) → 1 ≤ count → l
 unfolding listingOutcome byteLines jobOutcome textTable
 listing-outcome text room count h = rw (le-ltb count 1 h) (no-line _ _ _ _ _)
 
+none-placed : (text : List ℕ) (room count : ℕ) → ltb count 1 ≡ true → first (byteLines (length text) count) ≡ listingOutcome text room count
+unfolding listingOutcome byteLines
+none-placed text room count t = rw t (last-line _ _ _ _)
+
+refused-by : (text : List ℕ) (count : ℕ) → ltb count 1 ≡ true → (k : Refusal) × (first (byteLines (length text) count) ≡ Refused k)
+unfolding byteLines first
+refused-by text count t = rw t (go (ltb 65536 (length text)))
+  where
+    go : (b : Bool) → (k : Refusal) × (first ((b, OverLimit) ∷ (true, ShortBuffer) ∷ []) ≡ Refused k)
+    go true = (OverLimit, refl)
+    go false = (ShortBuffer, refl)
+
 module _ (text : List ℕ) (room count : ℕ) (blank : List ℕ) (z : blank ≡ noughts count) where
   pub listing-none : length blank < 1 → (said : Outcome) → said ≡ first (byteLines (length text) (length blank)) → (r : ℕ) → r ≡ numberIn said → (listing : List ℕ) → listing ≡ noughts room
       → ListingAnswer text room count r listing blank
-  unfolding listingOutcome byteLines
   listing-none h said e r a listing y =
       let n = blank-length count blank z in
       let t : ltb count 1 ≡ true = lt-ltb count 1 (omega (arith, h, n)) in
-      let o : said ≡ listingOutcome text room count = e ∙ rw (n, t) (last-line _ _ _ _) in
-      record { answer = a ∙ ap numberIn o; listing-is = rw t y; bytes-are = rw t z }
+      let f : first (byteLines (length text) (length blank)) ≡ listingOutcome text room count = ap (λ (k : ℕ). first (byteLines (length text) k)) n ∙ none-placed text room count t in
+      let k = refused-by text count t in
+      let o : listingOutcome text room count ≡ Refused (k .0) = sym f ∙ ap (λ (m : ℕ). first (byteLines (length text) m)) n ∙ k .1 in
+      record { answer = a ∙ ap numberIn (e ∙ f); listing-is = y ∙ laid-refused 0 _ (k .0) _ _ o; bytes-are = z ∙ laid-refused 0 _ (k .0) _ _ o }
 
-  pub listing-made : 1 ≤ length blank → (l : Listed) → l ≡ listedOf text room → (listing : List ℕ) → listing ≡ listingLaid text room → (k : ℕ) → k ≡ bytesIn l → (r : ℕ) → r ≡ numberListed l
+  pub listing-made : 1 ≤ length blank → (l : Listed) (listing : List ℕ) → TextListed text room l listing → (k : ℕ) → k ≡ bytesIn l → (r : ℕ) → r ≡ listedTells l .number
       → ListingAnswer text room count r listing (set blank 0 k)
-  unfolding listedOf over
-  listing-made h l el listing y k ek r a =
+  listing-made h l listing y k ek r a =
       let long : 1 ≤ count = omega (arith, h, blank-length count blank z) in
-      let t : ltb count 1 ≡ false = le-ltb count 1 long in
-      let b : k ≡ length (listingOf text room) = ek ∙ ap bytesIn el ∙ told-bytes (jobOutcome text room) (length (listingOf text room)) in
-      let w : set blank 0 k ≡ over (k ∷ []) blank = over-push [] blank 0 k refl (omega (arith, h)) in
+      let o = listing-outcome text room count long in
+      let m = y .made in
       record {
-        answer = a ∙ ap numberListed el ∙ told-number (jobOutcome text room) (length (listingOf text room)) ∙ ap numberIn (sym (listing-outcome text room count long));
-        listing-is = rw t y;
-        bytes-are = w ∙ ap (over (k ∷ [])) z ∙ over-replicate (k ∷ []) count 0 ∙ rw (t, b);
+        answer = number-told _ _ room count blank z l listing m r a ∙ ap numberIn (sym o);
+        listing-is = m .bytes-are ∙ ap (λ (x : Outcome). laid 0 x room (listingOf text)) (sym o);
+        bytes-are = bytes-put _ _ room count blank z l listing m long k ek ∙ ap (λ (x : Outcome). laid 0 x count (length (listingOf text) ∷ [])) (sym o);
+      }
+
+module _ (number room count : ℕ) (blank : List ℕ) (z : blank ≡ noughts count) where
+  pub line-none : length blank < 1 → (r : ℕ) → r ≡ 11 → (line : List ℕ) → line ≡ noughts room → LineAnswer number room count r line blank
+  unfolding lineOutcome countLines
+  line-none h r a line y =
+      let t : ltb count 1 ≡ true = lt-ltb count 1 (omega (arith, h, blank-length count blank z)) in
+      let o : lineOutcome number room count ≡ Refused ShortBuffer = then-refused _ _ ShortBuffer (table-hit _ ShortBuffer [] t) in
+      record { answer = a ∙ ap numberIn (sym o); line-is = y ∙ laid-refused 0 _ ShortBuffer _ _ o; bytes-are = z ∙ laid-refused 0 _ ShortBuffer _ _ o }
+
+  pub line-made : 1 ≤ length blank → (l : Listed) (line : List ℕ) → ListingMade (refusalOutcome number room) (refusalLine number) room l line → (k : ℕ) → k ≡ bytesIn l → (r : ℕ) → r ≡ listedTells l .number
+      → LineAnswer number room count r line (set blank 0 k)
+  unfolding lineOutcome countLines first
+  line-made h l line m k ek r a =
+      let long : 1 ≤ count = omega (arith, h, blank-length count blank z) in
+      let o : lineOutcome number room count ≡ refusalOutcome number room = then-done _ _ (table-pass _ ShortBuffer [] (le-ltb count 1 long)) in
+      record {
+        answer = number-told _ _ room count blank z l line m r a ∙ ap numberIn (sym o);
+        line-is = m .bytes-are ∙ ap (λ (x : Outcome). laid 0 x room (refusalLine number)) (sym o);
+        bytes-are = bytes-put _ _ room count blank z l line m long k ek ∙ ap (λ (x : Outcome). laid 0 x count (length (refusalLine number) ∷ [])) (sym o);
       }

@@ -23,39 +23,41 @@ use Rattle.linkage.specs.declared.Distance.{Distance}
 use Rattle.linkage.specs.declared.Linkage.{Linkage}
 use Rattle.linkage.specs.declared.NamedDistance.the-variants as distance
 use Rattle.linkage.specs.declared.NamedLinkage.the-variants as linkage
-use Rattle.parity.specs.Parity.{Room, roomLines}
-use Rattle.hrp.specs.Hrp.{Job, job, shapeLines, numberLines, hrpTable, outcomeOf, Allocated}
+use Rattle.parity.specs.Parity.{ParityRoom, parityRoomLines}
+use Rattle.hrp.specs.Hrp.{HrpJob, hrpJob, hrpShapeLines, numberLines, hrpTable, hrpOutcome, HrpAllocated}
 use Rattle.hierarchy.specs.Hierarchy as hierarchy
 use Rattle.hcaa.specs.Hcaa as hcaa
 use Rattle.hcaa.specs.declared.Clusters.{Clusters}
-use Rattle.capi.specs.Capi.{numberIn, distanceSays, linkageSays, distanceOf, linkageOf, hrpOutcome, HrpAnswer, askedLines, askedLaid, hcaaOutcome, HcaaAnswer, mergeSizes, mergeOutcome, leafSizes, leafOutcome}
-use Rattle.capi.proofs.Stages.{then-assoc, then-again}
+use Rattle.hcaa.proofs.Equal.{allocated}
+use Rattle.foreign.specs.Foreign.{distanceSays, linkageSays, distanceMeant, linkageMeant, askedLines, askedLaid, mergeSizes, leafSizes}
+use Rattle.foreign.proofs.Stages.{then-assoc, then-again, numberIn}
+use Rattle.capi.specs.Capi.{namedHrpOutcome, HrpAnswer, namedHcaaOutcome, HcaaAnswer, mergeOutcome, leafOutcome}
 
 -- ---- hierarchical risk parity
 
-module _ (j : Job) (name : List ℕ) (room : Room) (d : Distance) (e : distanceNamed name ≡ distance.Of d) where
+module _ (j : HrpJob) (name : List ℕ) (room : ParityRoom) (d : Distance) (e : distanceNamed name ≡ distance.Of d) where
   abbrev matrices : List Line
   matrices = matrixLines (j .assets) (j .prices-shape) (length (j .prices)) (j .returns-shape) (length (j .returns)) (j .covariance-shape) (length (j .covariance))
 
   abbrev rooms : List Line
-  rooms = roomLines (j .assets) room
+  rooms = parityRoomLines (j .assets) room
 
-  behind : outcomeOf j room ≡ andThen (andThen (first matrices) (first rooms)) (first (shapeLines j ++ numberLines j))
-  unfolding outcomeOf hrpTable
+  behind : hrpOutcome j room ≡ andThen (andThen (first matrices) (first rooms)) (first (hrpShapeLines j ++ numberLines j))
+  unfolding hrpOutcome hrpTable
   behind = first-append matrices _ ∙ ap (andThen (first matrices)) (first-append rooms _) ∙ sym (then-assoc _ _ _)
 
-  pub hrp-outcome : hrpOutcome j name room ≡ outcomeOf j room
-  unfolding hrpOutcome distanceSays
+  pub hrp-outcome : namedHrpOutcome j name room ≡ hrpOutcome j room
+  unfolding namedHrpOutcome distanceSays
   hrp-outcome = sym (then-assoc _ _ _) ∙ then-again _ _ _ _ (rw e) behind
 
 -- the answer, and every lent buffer, are those of `hrp::allocate` with that distance
-module _ (n : ℕ) (p : List Float) (ps : Shape) (xs : List Float) (rs : Shape) (c : List Float) (cs : Shape) (by : List ℕ) (shrink : Bool) (name : List ℕ) (room : Room) (r : ℕ) (rows order : List ℕ) (weights correlations distances scratch : List Float) where
-  abbrev call : Distance → Job
-  call d = job n p ps xs rs c cs by shrink d
+module _ (n : ℕ) (p : List Float) (ps : Shape) (xs : List Float) (rs : Shape) (c : List Float) (cs : Shape) (by : List ℕ) (shrink : Bool) (name : List ℕ) (room : ParityRoom) (r : ℕ) (rows order : List ℕ) (weights correlations distances scratch : List Float) where
+  abbrev call : Distance → HrpJob
+  call d = hrpJob n p ps xs rs c cs by shrink d
 
-  pub hrp-known : (d : Distance) → distanceNamed name ≡ distance.Of d → HrpAnswer (call (distanceOf (distanceNamed name))) name room r rows order weights correlations distances scratch
-      → (r ≡ numberIn (outcomeOf (call d) room)) × Allocated (call d) room (outcomeOf (call d) room) rows order weights correlations distances scratch
-  unfolding distanceOf
+  pub hrp-known : (d : Distance) → distanceNamed name ≡ distance.Of d → HrpAnswer (call (distanceMeant (distanceNamed name))) name room r rows order weights correlations distances scratch
+      → (r ≡ numberIn (hrpOutcome (call d) room)) × HrpAllocated (call d) room (hrpOutcome (call d) room) rows order weights correlations distances scratch
+  unfolding distanceMeant
   hrp-known d e z =
       let y : HrpAnswer (call d) name room r rows order weights correlations distances scratch = rw e at z in
       let o = hrp-outcome (call d) name room d e in
@@ -67,12 +69,12 @@ module _ (n : ℕ) (p : List Float) (ps : Shape) (xs : List Float) (rs : Shape) 
 regroup : (a b x y z o : Outcome) → andThen a (andThen b (andThen x (andThen y (andThen z o)))) ≡ andThen (andThen a b) (andThen (andThen x (andThen y z)) o)
 regroup a b x y z o = simp then-assoc
 
-module _ (j : hcaa.Job) (link name : List ℕ) (room : hierarchy.Room) (count : ℕ) (l : Linkage) (d : Distance) (el : linkageNamed link ≡ linkage.Of l) (ed : distanceNamed name ≡ distance.Of d) (two : 2 ≤ count) where
+module _ (j : hcaa.HcaaJob) (link name : List ℕ) (room : hierarchy.HierarchyRoom) (count : ℕ) (l : Linkage) (d : Distance) (el : linkageNamed link ≡ linkage.Of l) (ed : distanceNamed name ≡ distance.Of d) (two : 2 ≤ count) where
   abbrev hcaa-matrices : List Line
   hcaa-matrices = matrixLines (j .assets) (j .prices-shape) (length (j .prices)) (j .returns-shape) (length (j .returns)) (j .covariance-shape) (length (j .covariance))
 
-  hcaa-behind : (rest : List Line) → first (hcaa-matrices ++ (hierarchy.roomLines (j .assets) room ++ rest)) ≡ andThen (andThen (first hcaa-matrices) (first (hierarchy.roomLines (j .assets) room))) (first rest)
-  hcaa-behind rest = first-append hcaa-matrices _ ∙ ap (andThen (first hcaa-matrices)) (first-append (hierarchy.roomLines (j .assets) room) rest) ∙ sym (then-assoc _ _ _)
+  hcaa-behind : (rest : List Line) → first (hcaa-matrices ++ (hierarchy.hierarchyRoomLines (j .assets) room ++ rest)) ≡ andThen (andThen (first hcaa-matrices) (first (hierarchy.hierarchyRoomLines (j .assets) room))) (first rest)
+  hcaa-behind rest = first-append hcaa-matrices _ ∙ ap (andThen (first hcaa-matrices)) (first-append (hierarchy.hierarchyRoomLines (j .assets) room) rest) ∙ sym (then-assoc _ _ _)
 
   asked-fits : first (askedLines count) ≡ Done
   unfolding askedLines
@@ -82,24 +84,24 @@ module _ (j : hcaa.Job) (link name : List ℕ) (room : hierarchy.Room) (count : 
   unfolding andThen linkageSays distanceSays
   names-known = rw (asked-fits, el, ed)
 
-  pub hcaa-outcome : hcaaOutcome j link name room count ≡ hcaa.outcomeOf j room
-  unfolding hcaaOutcome hcaa.outcomeOf hcaa.hcaaTable
+  pub hcaa-outcome : namedHcaaOutcome j link name room count ≡ hcaa.hcaaOutcome j room
+  unfolding namedHcaaOutcome hcaa.hcaaOutcome hcaa.hcaaTable
   hcaa-outcome = regroup _ _ _ _ _ _ ∙ then-again _ _ _ _ names-known (hcaa-behind _)
 
 -- the answer, and every lent buffer, are those of `hcaa::allocate` with that linkage and that distance
 module _ (n : ℕ) (p : List Float) (ps : Shape) (xs : List Float) (rs : Shape) (c : List Float) (cs : Shape) (e : List Float) (given : Bool) (metric method : List ℕ) (conf : Float) (k : Clusters) (by link name : List ℕ)
-    (room : hierarchy.Room) (count r : ℕ) (rows order : List ℕ) (weights scratch : List Float) (asked : List ℕ) where
-  abbrev split : Distance → Linkage → hcaa.Job
-  split d l = hcaa.job n p ps xs rs c cs e given metric method conf k by d l
+    (room : hierarchy.HierarchyRoom) (count r : ℕ) (rows order : List ℕ) (weights scratch : List Float) (asked : List ℕ) where
+  abbrev split : Distance → Linkage → hcaa.HcaaJob
+  split d l = hcaa.hcaaJob n p ps xs rs c cs e given metric method conf k by d l
 
   pub hcaa-known : (l : Linkage) (d : Distance) → linkageNamed link ≡ linkage.Of l → distanceNamed name ≡ distance.Of d → 2 ≤ count
-      → HcaaAnswer (split (distanceOf (distanceNamed name)) (linkageOf (linkageNamed link))) link name room count r rows order weights scratch asked
-      → (r ≡ numberIn (hcaa.outcomeOf (split d l) room)) × hcaa.Allocated (split d l) room (hcaa.outcomeOf (split d l) room) rows order weights scratch × (asked ≡ askedLaid (hcaa.outcomeOf (split d l) room) count)
-  unfolding distanceOf linkageOf
+      → HcaaAnswer (split (distanceMeant (distanceNamed name)) (linkageMeant (linkageNamed link))) link name room count r rows order weights scratch asked
+      → (r ≡ numberIn (hcaa.hcaaOutcome (split d l) room)) × hcaa.HcaaAllocated (split d l) room (hcaa.hcaaOutcome (split d l) room) rows order weights scratch × (asked ≡ askedLaid (hcaa.hcaaOutcome (split d l) room) count)
+  unfolding distanceMeant linkageMeant
   hcaa-known l d el ed two z =
       let y : HcaaAnswer (split d l) link name room count r rows order weights scratch asked = rw (ed, el) at z in
       let o = hcaa-outcome (split d l) link name room count l d el ed two in
-      (y .answer ∙ ap numberIn o, record { answer = refl; buffers = rw o at (y .buffers) }, y .asked-is ∙ ap (λ x. askedLaid x count) o)
+      (y .answer ∙ ap numberIn o, allocated (split d l) room _ rows order weights scratch refl (rw o at (y .buffers)), y .asked-is ∙ ap (λ x. askedLaid x count) o)
 
 -- ---- the merge step
 

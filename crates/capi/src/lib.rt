@@ -1,9 +1,7 @@
 // The C interface: what rovignesc.h declares.
 
 use hcaa::Clusters;
-use job::Listed;
 use lent::Answer;
-use lent::Shape;
 use linkage::Distance;
 use linkage::Linkage;
 use linkage::NamedDistance;
@@ -14,72 +12,9 @@ use tree::Node;
 ghost use mathlib.Core.Path.{_≡_};
 ghost use lib.ListN.{length};
 ghost use Rattle.arithmetic.specs.Root.{root};
-ghost use Rattle.refusal.specs.Table.{first, andThen};
-ghost use Rattle.inputs.specs.Inputs.{matrixLines};
 ghost use Rattle.linkage.specs.Names.{distanceNamed, linkageNamed};
-ghost use Rattle.parity.specs.Parity.{roomFor, roomLines};
-ghost use Rattle.hrp.specs.Hrp.{job};
-ghost use Rattle.hierarchy.specs.Hierarchy as hierarchy;
-ghost use Rattle.hcaa.specs.Hcaa as hcaa;
-ghost use Rattle.capi.specs.Capi.{numberIn, isSet, shapeOf, distanceSays, linkageSays, distanceOf, linkageOf, HrpAnswer, clustersFor, askedLines, askedLaid, HcaaAnswer, CovarianceAnswer, mergeSizes, MergeAnswer, leafSizes, LeafAnswer, numberListed, byteLines, ListingAnswer};
-
-// The refusal's number, or 0.
-fn number(said: Outcome) -> u8
-    ensures { λ k. ⌜ k ≡ numberIn said ⌝ }
-{
-    match said {
-        Outcome::Done => 0,
-        Outcome::Refused(r) => refusal::number(r),
-    }
-}
-
-// A matrix that is given has its sizes.
-fn shape(given: u8, rows: usize, columns: usize) -> Shape
-    ensures { λ r. ⌜ r ≡ shapeOf given rows columns ⌝ }
-{
-    if given == 0 {
-        return Shape::Absent;
-    }
-    Shape::Of { rows, columns }
-}
-
-// Whether a name is known: its refusal where not.
-fn distance_said(name: &[u8]) -> Outcome
-    ensures { λ r. ⌜ r ≡ distanceSays (distanceNamed (now (name .entry))) ⌝ }
-{
-    match linkage::distance_named(name) {
-        NamedDistance::Of(_) => Outcome::Done,
-        NamedDistance::Refused(r) => Outcome::Refused(r),
-    }
-}
-
-fn linkage_said(name: &[u8]) -> Outcome
-    ensures { λ r. ⌜ r ≡ linkageSays (linkageNamed (now (name .entry))) ⌝ }
-{
-    match linkage::linkage_named(name) {
-        NamedLinkage::Of(_) => Outcome::Done,
-        NamedLinkage::Refused(r) => Outcome::Refused(r),
-    }
-}
-
-// What it names, once it is known.
-fn distance_in(name: &[u8]) -> Distance
-    ensures { λ r. ⌜ r ≡ distanceOf (distanceNamed (now (name .entry))) ⌝ }
-{
-    match linkage::distance_named(name) {
-        NamedDistance::Of(d) => d,
-        NamedDistance::Refused(_) => Distance::Correlation,
-    }
-}
-
-fn linkage_in(name: &[u8]) -> Linkage
-    ensures { λ r. ⌜ r ≡ linkageOf (linkageNamed (now (name .entry))) ⌝ }
-{
-    match linkage::linkage_named(name) {
-        NamedLinkage::Of(l) => l,
-        NamedLinkage::Refused(_) => Linkage::Single,
-    }
-}
+ghost use Rattle.foreign.specs.Foreign.{isSet, shapeOf, distanceMeant, linkageMeant};
+ghost use Rattle.capi.specs.Capi.{HrpAnswer, clustersFor, HcaaAnswer, CovarianceAnswer, MergeAnswer, LeafAnswer, ListingAnswer, LineAnswer};
 
 // The square root of a double.
 #[no_mangle]
@@ -89,36 +24,23 @@ pub extern "C" fn rovignesc_sqrt(x: f64) -> f64
     arithmetic::sqrt(x)
 }
 
-// 9, 10 and 11 of hierarchical risk parity, then its distance's name.
-fn judge_hrp(
-    n: usize,
-    prices: Shape,
-    prices_len: usize,
-    returns: Shape,
-    returns_len: usize,
-    covariance: Shape,
-    covariance_len: usize,
-    rows: usize,
-    order: usize,
-    weights: usize,
-    correlations: usize,
-    distances: usize,
-    scratch: usize,
-    name: &[u8],
-) -> Outcome
-    ensures { λ r. ⌜ r ≡ andThen (first (matrixLines n prices «prices_len» returns «returns_len» covariance «covariance_len»)) (andThen (first (roomLines n (roomFor rows order weights correlations distances scratch))) (distanceSays (distanceNamed (now (name .entry))))) ⌝ }
+// What it names, once it is known.
+fn distance_in(name: &[u8]) -> Distance
+    ensures { λ r. ⌜ r ≡ distanceMeant (distanceNamed (now (name .entry))) ⌝ }
 {
-    let matrices = inputs::judge_matrices(
-        n,
-        prices,
-        prices_len,
-        returns,
-        returns_len,
-        covariance,
-        covariance_len,
-    );
-    let rooms = parity::judge_rooms(n, rows, order, weights, correlations, distances, scratch);
-    refusal::and_then(matrices, refusal::and_then(rooms, distance_said(name)))
+    match linkage::distance_named(name) {
+        NamedDistance::Of(d) => d,
+        NamedDistance::Refused(_) => Distance::Correlation,
+    }
+}
+
+fn linkage_in(name: &[u8]) -> Linkage
+    ensures { λ r. ⌜ r ≡ linkageMeant (linkageNamed (now (name .entry))) ⌝ }
+{
+    match linkage::linkage_named(name) {
+        NamedLinkage::Of(l) => l,
+        NamedLinkage::Refused(_) => Linkage::Single,
+    }
 }
 
 // Hierarchical risk parity.
@@ -147,12 +69,34 @@ pub extern "C" fn rovignesc_hrp(
     seriated_distances: &mut [f64],
     scratch: &mut [f64],
 ) -> u8
-    ensures { λ r. ⌜ HrpAnswer (job assets (now (prices .entry)) (shapeOf «prices_given» «prices_rows» «prices_columns») (now (returns .entry)) (shapeOf «returns_given» «returns_rows» «returns_columns») (now (covariance .entry)) (shapeOf «covariance_given» «covariance_rows» «covariance_columns») (now («resample_by» .entry)) (isSet «use_shrinkage») (distanceOf (distanceNamed (now (distance .entry))))) (now (distance .entry)) (roomFor (length (now (rows .entry))) (length (now (order .entry))) (length (now (weights .entry))) (length (now («seriated_correlations» .entry))) (length (now («seriated_distances» .entry))) (length (now (scratch .entry)))) r (now (rows .exit)) (now (order .exit)) (now (weights .exit)) (now («seriated_correlations» .exit)) (now («seriated_distances» .exit)) (now (scratch .exit)) ⌝ }
+    ensures { λ r. ⌜ HrpAnswer
+        (record {
+          assets = assets;
+          prices = now (prices .entry);
+          prices-shape = shapeOf «prices_given» «prices_rows» «prices_columns»;
+          returns = now (returns .entry);
+          returns-shape = shapeOf «returns_given» «returns_rows» «returns_columns»;
+          covariance = now (covariance .entry);
+          covariance-shape = shapeOf «covariance_given» «covariance_rows» «covariance_columns»;
+          resample-by = now («resample_by» .entry);
+          use-shrinkage = isSet «use_shrinkage»;
+          distance = distanceMeant (distanceNamed (now (distance .entry)));
+        })
+        (now (distance .entry))
+        (record {
+          rows = length (now (rows .entry));
+          order = length (now (order .entry));
+          weights = length (now (weights .entry));
+          correlations = length (now («seriated_correlations» .entry));
+          distances = length (now («seriated_distances» .entry));
+          scratch = length (now (scratch .entry));
+        })
+        r (now (rows .exit)) (now (order .exit)) (now (weights .exit)) (now («seriated_correlations» .exit)) (now («seriated_distances» .exit)) (now (scratch .exit)) ⌝ }
 {
-    let prices_shape = shape(prices_given, prices_rows, prices_columns);
-    let returns_shape = shape(returns_given, returns_rows, returns_columns);
-    let covariance_shape = shape(covariance_given, covariance_rows, covariance_columns);
-    let said = judge_hrp(
+    let prices_shape = foreign::shape(prices_given, prices_rows, prices_columns);
+    let returns_shape = foreign::shape(returns_given, returns_rows, returns_columns);
+    let covariance_shape = foreign::shape(covariance_given, covariance_rows, covariance_columns);
+    let said = foreign::judge_hrp(
         assets,
         prices_shape,
         prices.len(),
@@ -177,9 +121,9 @@ pub extern "C" fn rovignesc_hrp(
             seriated_distances,
             scratch,
         );
-        return number(said);
+        return foreign::number(said);
     };
-    number(hrp::allocate(
+    foreign::number(hrp::allocate(
         assets,
         prices,
         prices_shape,
@@ -207,57 +151,6 @@ fn clusters_in(given: u8, count: usize) -> Clusters
         return Clusters::All;
     }
     Clusters::Count(count)
-}
-
-// The refusal's number, and the two beside it where there is room for them.
-fn tell(said: Outcome, asked: &mut [usize]) -> u8
-    ensures { λ r. ⌜ r ≡ numberIn said ⌝ }
-    ensures { λ _. ⌜ now (asked .exit) ≡ askedLaid said (length (now (asked .entry))) ⌝ }
-{
-    lent::clear_numbers(asked);
-    let Outcome::Refused(r) = said else {
-        return 0;
-    };
-    if asked.len() < 2 {
-        return refusal::number(r);
-    }
-    asked[0] = refusal::requested(r);
-    asked[1] = refusal::assets(r);
-    refusal::number(r)
-}
-
-// 9, 10 and 11 of HCAA, then the names of its linkage and its distance.
-fn judge_hcaa(
-    n: usize,
-    prices: Shape,
-    prices_len: usize,
-    returns: Shape,
-    returns_len: usize,
-    covariance: Shape,
-    covariance_len: usize,
-    rows: usize,
-    order: usize,
-    weights: usize,
-    scratch: usize,
-    asked: usize,
-    link: &[u8],
-    name: &[u8],
-) -> Outcome
-    ensures { λ r. ⌜ r ≡ andThen (first (matrixLines n prices «prices_len» returns «returns_len» covariance «covariance_len»)) (andThen (first (hierarchy.roomLines n (hierarchy.roomFor rows order weights scratch))) (andThen (first (askedLines asked)) (andThen (linkageSays (linkageNamed (now (link .entry)))) (distanceSays (distanceNamed (now (name .entry))))))) ⌝ }
-{
-    let matrices = inputs::judge_matrices(
-        n,
-        prices,
-        prices_len,
-        returns,
-        returns_len,
-        covariance,
-        covariance_len,
-    );
-    let rooms = hierarchy::judge_rooms(n, rows, order, weights, scratch);
-    let names = refusal::and_then(linkage_said(link), distance_said(name));
-    let rest = refusal::refuse(asked < 2, Refusal::ShortBuffer, names);
-    refusal::and_then(matrices, refusal::and_then(rooms, rest))
 }
 
 // Hierarchical clustering-based asset allocation.
@@ -292,12 +185,38 @@ pub extern "C" fn rovignesc_hcaa(
     scratch: &mut [f64],
     asked: &mut [usize],
 ) -> u8
-    ensures { λ r. ⌜ HcaaAnswer (hcaa.job assets (now (prices .entry)) (shapeOf «prices_given» «prices_rows» «prices_columns») (now (returns .entry)) (shapeOf «returns_given» «returns_rows» «returns_columns») (now (covariance .entry)) (shapeOf «covariance_given» «covariance_rows» «covariance_columns») (now (expected .entry)) (isSet «expected_given») (now (metric .entry)) (now (method .entry)) confidence (clustersFor «clusters_given» clusters) (now («resample_by» .entry)) (distanceOf (distanceNamed (now (distance .entry)))) (linkageOf (linkageNamed (now (linkage .entry))))) (now (linkage .entry)) (now (distance .entry)) (hierarchy.roomFor (length (now (rows .entry))) (length (now (order .entry))) (length (now (weights .entry))) (length (now (scratch .entry)))) (length (now (asked .entry))) r (now (rows .exit)) (now (order .exit)) (now (weights .exit)) (now (scratch .exit)) (now (asked .exit)) ⌝ }
+    ensures { λ r. ⌜ HcaaAnswer
+        (record {
+          assets = assets;
+          prices = now (prices .entry);
+          prices-shape = shapeOf «prices_given» «prices_rows» «prices_columns»;
+          returns = now (returns .entry);
+          returns-shape = shapeOf «returns_given» «returns_rows» «returns_columns»;
+          covariance = now (covariance .entry);
+          covariance-shape = shapeOf «covariance_given» «covariance_rows» «covariance_columns»;
+          expected = now (expected .entry);
+          expected-given = isSet «expected_given»;
+          metric = now (metric .entry);
+          method = now (method .entry);
+          confidence = confidence;
+          clusters = clustersFor «clusters_given» clusters;
+          resample-by = now («resample_by» .entry);
+          distance = distanceMeant (distanceNamed (now (distance .entry)));
+          linkage = linkageMeant (linkageNamed (now (linkage .entry)));
+        })
+        (now (linkage .entry)) (now (distance .entry))
+        (record {
+          rows = length (now (rows .entry));
+          order = length (now (order .entry));
+          weights = length (now (weights .entry));
+          scratch = length (now (scratch .entry));
+        })
+        (length (now (asked .entry))) r (now (rows .exit)) (now (order .exit)) (now (weights .exit)) (now (scratch .exit)) (now (asked .exit)) ⌝ }
 {
-    let prices_shape = shape(prices_given, prices_rows, prices_columns);
-    let returns_shape = shape(returns_given, returns_rows, returns_columns);
-    let covariance_shape = shape(covariance_given, covariance_rows, covariance_columns);
-    let said = judge_hcaa(
+    let prices_shape = foreign::shape(prices_given, prices_rows, prices_columns);
+    let returns_shape = foreign::shape(returns_given, returns_rows, returns_columns);
+    let covariance_shape = foreign::shape(covariance_given, covariance_rows, covariance_columns);
+    let said = foreign::judge_hcaa(
         assets,
         prices_shape,
         prices.len(),
@@ -315,7 +234,7 @@ pub extern "C" fn rovignesc_hcaa(
     );
     let Outcome::Done = said else {
         hierarchy::clear_all(rows, order, weights, scratch);
-        return tell(said, asked);
+        return foreign::tell(said, asked);
     };
     let answer = hcaa::allocate(
         assets,
@@ -339,7 +258,7 @@ pub extern "C" fn rovignesc_hcaa(
         weights,
         scratch,
     );
-    tell(answer, asked)
+    foreign::tell(answer, asked)
 }
 
 // The covariance of the columns of a matrix of returns.
@@ -352,20 +271,12 @@ pub extern "C" fn rovignesc_covariance(
 ) -> u8
     ensures { λ r. ⌜ CovarianceAnswer (now (returns .entry)) «returns_rows» «returns_columns» (length (now (covariance .entry))) r (now (covariance .exit)) ⌝ }
 {
-    number(lent::told(stats::covariance(returns, returns_rows, returns_columns, covariance)))
-}
-
-// 9, 10 and 11 of the merge step, then its linkage's name.
-fn judge_merge(len: usize, rows: usize, columns: usize, room: usize, name: &[u8]) -> Outcome
-    ensures { λ r. ⌜ r ≡ andThen (first (mergeSizes len rows columns room)) (linkageSays (linkageNamed (now (name .entry)))) ⌝ }
-{
-    let sized = lent::sized(len, rows, columns);
-    let rest = refusal::refuse(
-        lent::lacks_rows(room, columns),
-        Refusal::ShortBuffer,
-        linkage_said(name),
-    );
-    refusal::and_then(sized, rest)
+    foreign::number(lent::told(stats::covariance(
+        returns,
+        returns_rows,
+        returns_columns,
+        covariance,
+    )))
 }
 
 // The merge step.
@@ -379,7 +290,7 @@ pub extern "C" fn rovignesc_linkage_children(
 ) -> u8
     ensures { λ r. ⌜ MergeAnswer (now (distances .entry)) «distances_rows» «distances_columns» (now (linkage .entry)) (length (now (rows .entry))) r (now (rows .exit)) ⌝ }
 {
-    let said = judge_merge(
+    let said = foreign::judge_merge(
         distances.len(),
         distances_rows,
         distances_columns,
@@ -388,24 +299,15 @@ pub extern "C" fn rovignesc_linkage_children(
     );
     let Outcome::Done = said else {
         lent::clear_numbers(rows);
-        return number(said);
+        return foreign::number(said);
     };
-    number(lent::told(linkage::linkage_children(
+    foreign::number(lent::told(linkage::linkage_children(
         distances,
         distances_rows,
         distances_columns,
         linkage_in(linkage),
         rows,
     )))
-}
-
-// 9 and 11 of the leaf order.
-fn judge_leaves(n: usize, order: usize, leaves: usize) -> Outcome
-    ensures { λ r. ⌜ r ≡ first (leafSizes n order leaves) ⌝ }
-{
-    let o = refusal::refuse(leaves < 1, Refusal::ShortBuffer, Outcome::Done);
-    let o = refusal::refuse(order < n, Refusal::ShortBuffer, o);
-    refusal::refuse(lent::MOST_ASSETS < n, Refusal::OverLimit, o)
 }
 
 // The leaf order, and how many leaves there are.
@@ -419,11 +321,11 @@ pub extern "C" fn rovignesc_quasi_diagonalization(
 ) -> u8
     ensures { λ r. ⌜ LeafAnswer (now (rows .entry)) assets node (length (now (order .entry))) (length (now (leaves .entry))) r (now (order .exit)) (now (leaves .exit)) ⌝ }
 {
-    let said = judge_leaves(assets, order.len(), leaves.len());
+    let said = foreign::judge_leaves(assets, order.len(), leaves.len());
     lent::clear_numbers(leaves);
     let Outcome::Done = said else {
         lent::clear_numbers(order);
-        return number(said);
+        return foreign::number(said);
     };
     let answer = tree::quasi_diagonalization(rows, assets, Node(node), order);
     let Answer::Matrix {
@@ -431,28 +333,10 @@ pub extern "C" fn rovignesc_quasi_diagonalization(
         columns: count,
     } = answer
     else {
-        return number(lent::told(answer));
+        return foreign::number(lent::told(answer));
     };
     leaves[0] = count;
     0
-}
-
-// What was told of a listing, as a number.
-fn number_listed(listed: Listed) -> u8
-    ensures { λ k. ⌜ k ≡ numberListed listed ⌝ }
-{
-    match listed {
-        Listed::Sheet(_) => 0,
-        Listed::Refused(_, r) => refusal::number(r),
-    }
-}
-
-// 9, and 11 of the place for a listing's number of bytes.
-fn judge_bytes(len: usize, count: usize) -> Outcome
-    ensures { λ r. ⌜ r ≡ first (byteLines len count) ⌝ }
-{
-    let o = refusal::refuse(count < 1, Refusal::ShortBuffer, Outcome::Done);
-    refusal::refuse(reading::MOST_BYTES < len, Refusal::OverLimit, o)
 }
 
 // A job text to its listing, and how many bytes of it there are.
@@ -463,9 +347,24 @@ pub extern "C" fn rovignesc_listing(text: &[u8], listing: &mut [u8], bytes: &mut
     lent::clear_numbers(bytes);
     if bytes.len() < 1 {
         lent::clear_bytes(listing);
-        return number(judge_bytes(text.len(), bytes.len()));
+        return foreign::number(foreign::judge_bytes(text.len(), bytes.len()));
     }
     let listed = job::text_to_listing(text, listing);
-    bytes[0] = job::bytes(listed);
-    number_listed(listed)
+    bytes[0] = listing::bytes(listed);
+    foreign::number_listed(listed)
+}
+
+// The line of a refusal's number, and how many bytes of it there are.
+#[no_mangle]
+pub extern "C" fn rovignesc_refusal_line(number: u8, line: &mut [u8], bytes: &mut [usize]) -> u8
+    ensures { λ r. ⌜ LineAnswer number (length (now (line .entry))) (length (now (bytes .entry))) r (now (line .exit)) (now (bytes .exit)) ⌝ }
+{
+    lent::clear_numbers(bytes);
+    if bytes.len() < 1 {
+        lent::clear_bytes(line);
+        return refusal::number(Refusal::ShortBuffer);
+    }
+    let listed = listing::refusal_line(number, line);
+    bytes[0] = listing::bytes(listed);
+    foreign::number_listed(listed)
 }

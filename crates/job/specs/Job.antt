@@ -1,19 +1,16 @@
 -- Document 01, "Millionths and the job program": from a job text to its listing. "Order: 9, 15, 8, 7, the allocator's, 13." Definitions only.
-use Prim.Native.Nat.{ℕ, _-_}
-use mathlib.Core.Bool.{false, not, cond}
-use mathlib.Core.List.{List, [], _∷_, _++_}
+use Prim.Native.Nat.{ℕ}
+use mathlib.Core.Path.{_≡_}
+use mathlib.Core.Bool.{false}
+use mathlib.Core.List.{List, [], _∷_}
 use lib.Dec.{ltb}
 use lib.ListN.{length}
 use lib.Ieee.{Float, binary64, ofBits}
-use Rattle.refusal.specs.Refusal.{numberOf}
 use Rattle.refusal.specs.Table.{Line, first, andThen}
-use Rattle.refusal.specs.declared.Refusal.the-variants.{OverLimit, ShortBuffer, WeightOutOfRange}
+use Rattle.refusal.specs.declared.Refusal.the-variants.{OverLimit, ShortBuffer}
 use Rattle.refusal.specs.declared.Outcome.{Outcome}
 use Rattle.refusal.specs.declared.Outcome.the-variants as outcome
-use Rattle.lent.specs.Grid.{noughts}
 use Rattle.lent.specs.declared.Shape.the-variants.{Absent, Of}
-use Rattle.fields.specs.Split.{all}
-use Rattle.millionths.specs.Millionths.{inRange}
 use Rattle.reading.specs.Reading.{most-bytes, textLines, jobIn, assets, line, field, covarianceIn, nameOf, clustersOf}
 use Rattle.reading.specs.declared.Asked.{Asked}
 use Rattle.reading.specs.declared.Asked.the-variants as asked
@@ -28,9 +25,10 @@ use Rattle.hierarchy.specs.Hierarchy as hierarchy
 use Rattle.hcaa.specs.Hcaa as hcaa
 use Rattle.hcaa.specs.declared.Clusters.{Clusters}
 use Rattle.hcaa.specs.declared.Clusters.the-variants as clusters
-use Rattle.job.specs.Listing.{listing, refusalLine}
-use Rattle.job.specs.declared.Listed.{Listed}
-use Rattle.job.specs.declared.Listed.the-variants as listed
+use Rattle.metrics.specs.declared.Metric.the-variants.{EqualWeighting}
+use Rattle.equal.specs.Equal.{EqualShares}
+use Rattle.listing.specs.Listing.{listing, least-listing, rangeTable, ListingMade}
+use Rattle.listing.specs.declared.Listed.{Listed}
 
 -- ---- the allocator's call: the covariance of the text, and nothing else
 
@@ -39,92 +37,104 @@ clustersAs (asked.Count k) = clusters.Count k
 clustersAs asked.All = clusters.All
 clustersAs asked.Malformed = clusters.All
 
-unfoldable pub hrpJob : List ℕ → Distance → hrp.Job
+unfoldable pub hrpJobIn : List ℕ → Distance → hrp.HrpJob
 unfolding covarianceIn
-hrpJob text d = hrp.job (assets text) [] Absent [] Absent (covarianceIn text) (Of (assets text) (assets text)) [] false d
+hrpJobIn text d = record {
+  assets = assets text;
+  prices = [];
+  prices-shape = Absent;
+  returns = [];
+  returns-shape = Absent;
+  covariance = covarianceIn text;
+  covariance-shape = Of (assets text) (assets text);
+  resample-by = [];
+  use-shrinkage = false;
+  distance = d;
+}
 
 -- a job text has no rows of returns, so that a tail-risk metric is refused (16) whatever the confidence; it is the double nearest 0.05
 abbrev pub confidence : Float
 confidence = ofBits binary64 0x3fa9_9999_9999_999a
 
-unfoldable pub hcaaJob : List ℕ → Linkage → Distance → hcaa.Job
+-- the metric is the second field of an `hcaa` line, the clusters the fifth
+abbrev pub metricIn : List ℕ → List ℕ
+metricIn text = field (line text 0) 1
+
+abbrev pub clustersIn : List ℕ → Clusters
+clustersIn text = clustersAs (clustersOf (field (line text 0) 4))
+
+unfoldable pub hcaaJobIn : List ℕ → Linkage → Distance → hcaa.HcaaJob
 unfolding covarianceIn clustersOf
-hcaaJob text l d =
-    hcaa.job (assets text) [] Absent [] Absent (covarianceIn text) (Of (assets text) (assets text)) [] false (field (line text 0) 1) [] confidence (clustersAs (clustersOf (field (line text 0) 4))) [] d l
+hcaaJobIn text l d = record {
+  assets = assets text;
+  prices = [];
+  prices-shape = Absent;
+  returns = [];
+  returns-shape = Absent;
+  covariance = covarianceIn text;
+  covariance-shape = Of (assets text) (assets text);
+  expected = [];
+  expected-given = false;
+  metric = metricIn text;
+  method = [];
+  confidence = confidence;
+  clusters = clustersIn text;
+  resample-by = [];
+  distance = d;
+  linkage = l;
+}
 
 -- buffers for 64 assets
-abbrev pub hrpRoom : parity.Room
-hrpRoom = parity.roomFor 126 64 64 4096 4096 8192
+abbrev pub roomOfHrp : parity.ParityRoom
+roomOfHrp = record { rows = 126; order = 64; weights = 64; correlations = 4096; distances = 4096; scratch = 8192 }
 
-abbrev pub hcaaRoom : hierarchy.Room
-hcaaRoom = hierarchy.roomFor 126 64 64 8192
+abbrev pub roomOfHcaa : hierarchy.HierarchyRoom
+roomOfHcaa = record { rows = 126; order = 64; weights = 64; scratch = 8192 }
 
 -- ---- what it says, its weights and its leaf order; by what the text asks for
 
 unfoldable pub allocatorSays : List ℕ → Reading → Outcome
-unfolding hrpJob hcaaJob
+unfolding hrpJobIn hcaaJobIn
 allocatorSays text (reading.Refused r) = outcome.Refused r
-allocatorSays text (reading.Hrp n d) = hrp.outcomeOf (hrpJob text d) hrpRoom
-allocatorSays text (reading.Hcaa n l d) = hcaa.outcomeOf (hcaaJob text l d) hcaaRoom
+allocatorSays text (reading.Hrp n d) = hrp.hrpOutcome (hrpJobIn text d) roomOfHrp
+allocatorSays text (reading.Hcaa n l d) = hcaa.hcaaOutcome (hcaaJobIn text l d) roomOfHcaa
 
-unfoldable pub weightsOf : List ℕ → Reading → List Float
-unfolding hcaaJob covarianceIn
-weightsOf text (reading.Refused r) = []
-weightsOf text (reading.Hrp n d) = weightsIn (parity.sharesOf d (covarianceIn text) n)
-weightsOf text (reading.Hcaa n l d) = weightsIn (hierarchy.weightsOf (hcaa.usedRule (hcaaJob text l d)) d l (covarianceIn text) n)
+unfoldable pub jobWeights : List ℕ → Reading → List Float
+unfolding hcaaJobIn covarianceIn
+jobWeights text (reading.Refused r) = []
+jobWeights text (reading.Hrp n d) = weightsIn (parity.hrpShares d (covarianceIn text) n)
+jobWeights text (reading.Hcaa n l d) = weightsIn (hierarchy.hcaaShares (hcaa.usedRule (hcaaJobIn text l d)) d l (covarianceIn text) n)
 
-unfoldable pub orderOf : List ℕ → Reading → List ℕ
+unfoldable pub jobOrder : List ℕ → Reading → List ℕ
 unfolding covarianceIn
-orderOf text (reading.Refused r) = []
-orderOf text (reading.Hrp n d) = parity.orderOf d (covarianceIn text) n
-orderOf text (reading.Hcaa n l d) = hierarchy.orderOf d l (covarianceIn text) n
+jobOrder text (reading.Refused r) = []
+jobOrder text (reading.Hrp n d) = parity.hrpOrder d (covarianceIn text) n
+jobOrder text (reading.Hcaa n l d) = hierarchy.hcaaOrder d l (covarianceIn text) n
 
 -- ---- refusals
-
--- 8,192 bytes hold every listing
-abbrev pub least-listing : ℕ
-least-listing = 8192
 
 -- "9, 15, 8, 7", with the listing buffer's 11 after the 9
 unfoldable pub textTable : List ℕ → ℕ → List Line
 unfolding textLines
 textTable text room = (ltb most-bytes (length text), OverLimit) ∷ (ltb room least-listing, ShortBuffer) ∷ textLines text
 
--- "a weight to be put in millionths is NaN, below 0 or above 1" (13)
-unfoldable pub rangeTable : List Float → List Line
-unfolding all inRange
-rangeTable ws = (not (all inRange ws), WeightOutOfRange) ∷ []
-
 unfoldable pub jobOutcome : List ℕ → ℕ → Outcome
-unfolding textTable allocatorSays rangeTable weightsOf jobIn
-jobOutcome text room = andThen (first (textTable text room)) (andThen (allocatorSays text (jobIn text)) (first (rangeTable (weightsOf text (jobIn text)))))
+unfolding textTable allocatorSays rangeTable jobWeights jobIn
+jobOutcome text room =
+    andThen (first (textTable text room))
+    (andThen (allocatorSays text (jobIn text)) (first (rangeTable (jobWeights text (jobIn text)))))
 
 -- ---- the listing
 
-unfoldable pub linesFor : List ℕ → Outcome → List ℕ
-unfolding weightsOf orderOf jobIn nameOf listing refusalLine
-linesFor text outcome.Done = listing (nameOf text) (weightsOf text (jobIn text)) (orderOf text (jobIn text))
-linesFor text (outcome.Refused r) = refusalLine (numberOf r)
+unfoldable pub listingOf : List ℕ → List ℕ
+unfolding jobWeights jobOrder jobIn nameOf listing
+listingOf text = listing (nameOf text) (jobWeights text (jobIn text)) (jobOrder text (jobIn text))
 
--- none where the buffer has no room for every listing
-unfoldable pub listingOf : List ℕ → ℕ → List ℕ
-unfolding jobOutcome linesFor
-listingOf text room = cond (ltb room least-listing) [] (linesFor text (jobOutcome text room))
-
--- the listing, then zeros
-unfoldable pub listingLaid : List ℕ → ℕ → List ℕ
-unfolding listingOf
-listingLaid text room = listingOf text room ++ noughts (room - length (listingOf text room))
-
--- how many bytes it has, and why a job was refused
-unfoldable pub toldAs : Outcome → ℕ → Listed
-toldAs outcome.Done bytes = listed.Sheet bytes
-toldAs (outcome.Refused r) bytes = listed.Refused bytes r
-
-unfoldable pub listedOf : List ℕ → ℕ → Listed
-unfolding jobOutcome listingOf toldAs
-listedOf text room = toldAs (jobOutcome text room) (length (listingOf text room))
-
-abbrev pub bytesIn : Listed → ℕ
-bytesIn (listed.Sheet bytes) = bytes
-bytesIn (listed.Refused bytes r) = bytes
+-- what the call answers and leaves in its buffer. A refused text leaves zeros; the refusal is what is returned
+pub record TextListed (text : List ℕ) (room : ℕ) (r : Listed) (out : List ℕ) : Type 0 where
+  pub made : ListingMade (jobOutcome text room) (listingOf text) room r out
+  -- demand 3: an accepted `hcaa` text by equal weighting lists equal shares, by the rows of its tree and its clusters
+  pub equal-shares : (l : Linkage) (d : Distance) → jobOutcome text room ≡ outcome.Done → jobIn text ≡ reading.Hcaa (assets text) l d
+      → hcaa.usedMetric (hcaaJobIn text l d) ≡ EqualWeighting
+      → EqualShares (assets text) (hcaa.clusterCount (clustersIn text) (assets text))
+      (hierarchy.hcaaRows d l (covarianceIn text) (assets text)) (jobWeights text (jobIn text))

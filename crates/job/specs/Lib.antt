@@ -1,4 +1,2 @@
 pub mod Job
-pub mod Listing
-pub mod Steps
-pub mod Write
+pub mod Inner

@@ -1,5 +1,5 @@
 -- `capi::distance_in` meets its contract. Assumes nothing.
-use Rattle.capi.specs.Capi.{distanceOf}
+use Rattle.foreign.specs.Foreign.{distanceMeant}
 use borrow.Author.Needs.{needs}
 use Rattle.capi.proofs.distance_in.Statement.{statement}
 use Rattle.capi.proofs.distance_in.Tie as tie
@@ -14,11 +14,11 @@ enum-told : tie.Need-enum-told
 enum-told c = search needs
 
 returns : tie.Need-returns
-unfolding distanceOf
+unfolding distanceMeant
 returns c = rw (← c .before .before .before .distance-named .ensures, c .before .d .given .1)
 
 returns-2 : tie.Need-returns-2
-unfolding distanceOf
+unfolding distanceMeant
 returns-2 c = rw (← c .before .before .distance-named .ensures, c .enum-told .given .1)
 
 pub distance-in-spec : {M : Type 1} → statement M

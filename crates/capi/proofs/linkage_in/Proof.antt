@@ -1,5 +1,5 @@
 -- `capi::linkage_in` meets its contract. Assumes nothing.
-use Rattle.capi.specs.Capi.{linkageOf}
+use Rattle.foreign.specs.Foreign.{linkageMeant}
 use borrow.Author.Needs.{needs}
 use Rattle.capi.proofs.linkage_in.Statement.{statement}
 use Rattle.capi.proofs.linkage_in.Tie as tie
@@ -14,11 +14,11 @@ enum-told : tie.Need-enum-told
 enum-told c = search needs
 
 returns : tie.Need-returns
-unfolding linkageOf
+unfolding linkageMeant
 returns c = rw (← c .before .before .before .linkage-named .ensures, c .before .l .given .1)
 
 returns-2 : tie.Need-returns-2
-unfolding linkageOf
+unfolding linkageMeant
 returns-2 c = rw (← c .before .before .linkage-named .ensures, c .enum-told .given .1)
 
 pub linkage-in-spec : {M : Type 1} → statement M

@@ -3,7 +3,7 @@ use mathlib.Core.Path.{ap, _∙_}
 use Rattle.lent.specs.Lent.{toldOf}
 use Rattle.lent.proofs.Sizes.{told-as}
 use Rattle.stats.specs.Covariance.{covarianceAnswer}
-use Rattle.capi.specs.Capi.{numberIn}
+use Rattle.foreign.proofs.Stages.{numberIn}
 use borrow.Author.Needs.{needs}
 use Rattle.capi.proofs.rovignesc_covariance.Statement.{statement}
 use Rattle.capi.proofs.rovignesc_covariance.Tie as tie

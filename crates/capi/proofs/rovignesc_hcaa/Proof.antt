@@ -95,7 +95,7 @@ returns-2 c =
     let x = said .before .before .shape2 .ensures in
     let v = said .before .shape3 .ensures in
     let t = c .before .before .tell2 .ensures in
-    hcaa-done _ _ _ _ p _ _ _ x _ _ _ v _ _ _ _ _ _ _ _ _ _ _ _ (said .judge-hcaa .ensures) _ _ _ _ _ _ (told .enum-told .given .1) _ (k .clusters-in .ensures) _ (d .distance-in .ensures) _ (l .linkage-in .ensures) _ (t .0) (t .1) (made .allocate .ensures .0)
+    hcaa-done _ _ _ _ p _ _ _ x _ _ _ v _ _ _ _ _ _ _ _ _ _ _ _ (said .judge-hcaa .ensures) _ _ _ _ _ _ (told .enum-told .given .1) _ (k .clusters-in .ensures) _ (d .distance-in .ensures) _ (l .linkage-in .ensures) _ (t .0) (t .1) (made .allocate .ensures)
 
 pub rovignesc-hcaa-spec : {M : Type 1} → statement M
 rovignesc-hcaa-spec =

@@ -48,7 +48,7 @@ same-length-4 c = search needs
 returns-2 : tie.Need-returns-2
 returns-2 c =
     let made = c .before .before .before .before .text-to-listing .ensures in
-    listing-made _ _ _ _ (c .before .before .before .before .before .before .before .before .before .clear-numbers .ensures) (omega (arith, c .before .before .before .before .before .before .if1 .left)) _ (made .0) _ (made .1 .0) _ (c .before .bytes2 .ensures) _ (c .number-listed .ensures)
+    listing-made _ _ _ _ (c .before .before .before .before .before .before .before .before .before .clear-numbers .ensures) (omega (arith, c .before .before .before .before .before .before .if1 .left)) _ _ made _ (c .before .bytes2 .ensures) _ (c .number-listed .ensures)
 
 pub rovignesc-listing-spec : {M : Type 1} → statement M
 rovignesc-listing-spec =

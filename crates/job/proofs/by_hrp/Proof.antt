@@ -36,7 +36,7 @@ hrp-in-requires c κs = (refl, c .before .before .before .before .before .before
 
 -- src/lib.rt:304:1
 same-length : tie.Need-same-length
-same-length c = search needs
+same-length c = c .before .before .before .before .before .before .before .before .hrp-in .kept .1 .1 .1 .1 .1 .1 .1 .1 .1 .1 .0
 
 -- src/lib.rt:304:1
 returns : tie.Need-returns

@@ -1,3 +1,4 @@
+-- `job::list_job` meets its contract. Assumes nothing.
 use native.Mathlib.Omega.{arith}
 use mathlib.Core.Path.{refl, sym, _∙_}
 use lib.Seq.{length-take-le}
@@ -7,164 +8,124 @@ use Rattle.job.proofs.Jobs.{unread, hrp-few, hrp-begun, hcaa-few, hcaa-
 use borrow.Author.Needs.{needs}
 use Rattle.job.proofs.list_job.Statement.{statement}
 use Rattle.job.proofs.list_job.Tie as tie
-use Rattle.job.proofs.list_job.Reads as reads
-use Rattle.job.proofs.list_job.Lts as lts
-use Rattle.job.proofs.by_hcaa.Reads as by-hcaa-reads
-use Rattle.job.proofs.by_hrp.Reads as by-hrp-reads
-use Rattle.job.proofs.refused.Reads as refused-reads
-use Rattle.reading.proofs.read_job.Reads as read-job-reads
 
--- src/lib.rt:432:9
 read-job-requires : tie.Need-read-job-requires
 read-job-requires c κs = search needs
 
--- src/lib.rt:434:26
 enum-known-read : tie.Need-enum-known-read
 enum-known-read c = search needs
 
--- src/lib.rt:434:32
-refused-requires : tie.Need-refused-requires
-refused-requires c κs = search needs
-
--- src/lib.rt:435:24
 enum-known-read-2 : tie.Need-enum-known-read-2
 enum-known-read-2 c = search needs
 
--- src/lib.rt:436:25
 mul-cells : tie.Need-mul-cells
 mul-cells c = let s = c .before .before .before .before .before .before .before .before .before .before .before .before .before .before in
     let e = c .before .before .before .before .before .before .before .read-job .ensures in
     let k = c .before .before .before .before .before .before .before .read-job .kept in
     omega (arith, square-in _ (hrp-few _ _ _ (s .pre .0) (s .pre .1 .0) _ (e .0) _ _ (e .1 .0) (e .1 .1) _ _ (c .before .read2 .given .1)))
 
--- src/lib.rt:437:26
 slice-reshare-prefix-by-hrp : tie.Need-slice-reshare-prefix-by-hrp
 slice-reshare-prefix-by-hrp c = let s = c .before .before .before .before .before .before .before .before .before .before .before .before .before .before in
     let e = c .before .before .before .before .before .before .before .read-job .ensures in
     let k = c .before .before .before .before .before .before .before .read-job .kept in
     omega (arith, k .1 .0, s .pre .0, square-in _ (hrp-few _ _ _ (s .pre .0) (s .pre .1 .0) _ (e .0) _ _ (e .1 .0) (e .1 .1) _ _ (c .before .read2 .given .1)))
 
--- src/lib.rt:437:26
 slice-aggregate-by-hrp : tie.Need-slice-aggregate-by-hrp
 slice-aggregate-by-hrp c = let s = c .before .before .before .before .before .before .before .before .before .before .before .before .before .before .before in
     let e = c .before .before .before .before .before .before .before .before .read-job .ensures in
     let k = c .before .before .before .before .before .before .before .before .read-job .kept in
     sym (length-take-le _ _ (omega (arith, k .1 .0, s .pre .0, square-in _ (hrp-few _ _ _ (s .pre .0) (s .pre .1 .0) _ (e .0) _ _ (e .1 .0) (e .1 .1) _ _ (c .before .before .read2 .given .1)))))
 
--- src/lib.rt:437:48
 slice-reshare-prefix-by-hrp-2 : tie.Need-slice-reshare-prefix-by-hrp-2
 slice-reshare-prefix-by-hrp-2 c = let s = c .before .before .before .before .before .before .before .before .before .before .before .before .before .before .before in
     let e = c .before .before .before .before .before .before .before .before .read-job .ensures in
     let k = c .before .before .before .before .before .before .before .before .read-job .kept in
     omega (arith, k .1 .1 .0, s .pre .1 .0, hrp-few _ _ _ (s .pre .0) (s .pre .1 .0) _ (e .0) _ _ (e .1 .0) (e .1 .1) _ _ (c .before .before .read2 .given .1))
 
--- src/lib.rt:437:48
 slice-aggregate-by-hrp-2 : tie.Need-slice-aggregate-by-hrp-2
 slice-aggregate-by-hrp-2 c = let s = c .before .before .before .before .before .before .before .before .before .before .before .before .before .before .before .before in
     let e = c .before .before .before .before .before .before .before .before .before .read-job .ensures in
     let k = c .before .before .before .before .before .before .before .before .before .read-job .kept in
     sym (length-take-le _ _ (omega (arith, k .1 .1 .0, s .pre .1 .0, hrp-few _ _ _ (s .pre .0) (s .pre .1 .0) _ (e .0) _ _ (e .1 .0) (e .1 .1) _ _ (c .before .before .before .read2 .given .1))))
 
--- src/lib.rt:437:13
 by-hrp-requires : tie.Need-by-hrp-requires
 by-hrp-requires c κs = let s = c .before .before .before .before .before .before .before .before .before .before .before .before .before .before .before .before .before in
     let e = c .before .before .before .before .before .before .before .before .before .before .read-job .ensures in
     let k = c .before .before .before .before .before .before .before .before .before .before .read-job .kept in
     (hrp-begun _ _ _ (s .pre .0) (s .pre .1 .0) _ (e .0) _ _ (e .1 .0) (e .1 .1) _ _ (c .before .before .before .before .read2 .given .1), s .pre .1 .1)
 
--- src/lib.rt:440:13
 enum-known-read-3 : tie.Need-enum-known-read-3
 enum-known-read-3 c = search needs
 
--- src/lib.rt:444:25
 mul-cells-2 : tie.Need-mul-cells-2
 mul-cells-2 c = let s = c .before .before .before .before .before .before .before .before .before .before .before .before .before .before in
     let e = c .before .before .before .before .before .before .before .read-job .ensures in
     let k = c .before .before .before .before .before .before .before .read-job .kept in
     omega (arith, square-in _ (hcaa-few _ _ _ (s .pre .0) (s .pre .1 .0) _ (e .0) _ _ (e .1 .0) (e .1 .1) _ _ _ (c .before .read3 .given .1)))
 
--- src/lib.rt:447:17
 slice-reshare-prefix-by-hcaa : tie.Need-slice-reshare-prefix-by-hcaa
 slice-reshare-prefix-by-hcaa c = let s = c .before .before .before .before .before .before .before .before .before .before .before .before .before .before in
     let e = c .before .before .before .before .before .before .before .read-job .ensures in
     let k = c .before .before .before .before .before .before .before .read-job .kept in
     omega (arith, k .1 .0, s .pre .0, square-in _ (hcaa-few _ _ _ (s .pre .0) (s .pre .1 .0) _ (e .0) _ _ (e .1 .0) (e .1 .1) _ _ _ (c .before .read3 .given .1)))
 
--- src/lib.rt:447:17
 slice-aggregate-by-hcaa : tie.Need-slice-aggregate-by-hcaa
 slice-aggregate-by-hcaa c = let s = c .before .before .before .before .before .before .before .before .before .before .before .before .before .before .before in
     let e = c .before .before .before .before .before .before .before .before .read-job .ensures in
     let k = c .before .before .before .before .before .before .before .before .read-job .kept in
     sym (length-take-le _ _ (omega (arith, k .1 .0, s .pre .0, square-in _ (hcaa-few _ _ _ (s .pre .0) (s .pre .1 .0) _ (e .0) _ _ (e .1 .0) (e .1 .1) _ _ _ (c .before .before .read3 .given .1)))))
 
--- src/lib.rt:448:17
 slice-reshare-prefix-by-hcaa-2 : tie.Need-slice-reshare-prefix-by-hcaa-2
 slice-reshare-prefix-by-hcaa-2 c = let s = c .before .before .before .before .before .before .before .before .before .before .before .before .before .before .before in
     let e = c .before .before .before .before .before .before .before .before .read-job .ensures in
     let k = c .before .before .before .before .before .before .before .before .read-job .kept in
     omega (arith, k .1 .1 .0, s .pre .1 .0, hcaa-few _ _ _ (s .pre .0) (s .pre .1 .0) _ (e .0) _ _ (e .1 .0) (e .1 .1) _ _ _ (c .before .before .read3 .given .1))
 
--- src/lib.rt:448:17
 slice-aggregate-by-hcaa-2 : tie.Need-slice-aggregate-by-hcaa-2
 slice-aggregate-by-hcaa-2 c = let s = c .before .before .before .before .before .before .before .before .before .before .before .before .before .before .before .before in
     let e = c .before .before .before .before .before .before .before .before .before .read-job .ensures in
     let k = c .before .before .before .before .before .before .before .before .before .read-job .kept in
     sym (length-take-le _ _ (omega (arith, k .1 .1 .0, s .pre .1 .0, hcaa-few _ _ _ (s .pre .0) (s .pre .1 .0) _ (e .0) _ _ (e .1 .0) (e .1 .1) _ _ _ (c .before .before .before .read3 .given .1))))
 
--- src/lib.rt:445:13
 by-hcaa-requires : tie.Need-by-hcaa-requires
 by-hcaa-requires c κs = let s = c .before .before .before .before .before .before .before .before .before .before .before .before .before .before .before .before .before in
     let e = c .before .before .before .before .before .before .before .before .before .before .read-job .ensures in
     let k = c .before .before .before .before .before .before .before .before .before .before .read-job .kept in
     (hcaa-begun _ _ _ (s .pre .0) (s .pre .1 .0) _ (e .0) _ _ (e .1 .0) (e .1 .1) _ _ _ (c .before .before .before .before .read3 .given .1), s .pre .1 .1)
 
--- src/lib.rt:426:1
 same-length : tie.Need-same-length
-same-length c = search needs
+same-length c = c .before .before .before .before .before .before .before .read-job .kept .1 .0
 
--- src/lib.rt:426:1
 same-length-2 : tie.Need-same-length-2
-same-length-2 c = search needs
+same-length-2 c = c .before .before .before .before .before .before .before .read-job .kept .1 .1 .0
 
--- src/lib.rt:426:1
-same-length-3 : tie.Need-same-length-3
-same-length-3 c = search needs
-
--- src/lib.rt:426:1
 returns : tie.Need-returns
-returns c = let s = c .before .before .before .before .before .before .before .before .before .before .before .before .before .before .before .before .before .before in
+returns c =
+    let s = c .before .before .before .before .before .before .before .before .before .before .before .before .before .before in
     let b = s .pre .1 .1 in
-    told-refused _ _ (b .room) _ _ _ _ (job-unread _ _ (b .room) _ (unread _ _ _ (s .pre .0) (s .pre .1 .0) _ (c .before .before .before .before .before .before .before .before .before .before .before .read-job .ensures .0) _ (c .before .before .before .before .before .read .given .1))) (b .zero) refl (c .before .before .refused .ensures)
+    told-refused _ _ _ _ (job-unread _ _ (b .room) _ (unread _ _ _ (s .pre .0) (s .pre .1 .0) _ (c .before .before .before .before .before .before .before .read-job .ensures .0) _ (c .before .read .given .1))) (b .zero)
 
--- src/lib.rt:426:1
+same-length-3 : tie.Need-same-length-3
+same-length-3 c = c .before .before .before .before .before .before .before .before .before .before .before .before .before .read-job .kept .1 .0
+
 same-length-4 : tie.Need-same-length-4
-same-length-4 c = search needs
+same-length-4 c = c .before .before .before .before .before .before .before .before .before .before .before .before .before .read-job .kept .1 .1 .0
 
--- src/lib.rt:426:1
 same-length-5 : tie.Need-same-length-5
-same-length-5 c = search needs
+same-length-5 c = c .before .before .by-hrp .kept .1 .1 .1 .1 .0
 
--- src/lib.rt:426:1
-same-length-6 : tie.Need-same-length-6
-same-length-6 c = search needs
-
--- src/lib.rt:426:1
 returns-2 : tie.Need-returns-2
 returns-2 c = search needs
 
--- src/lib.rt:426:1
+same-length-6 : tie.Need-same-length-6
+same-length-6 c = c .before .before .before .before .before .before .before .before .before .before .before .before .before .read-job .kept .1 .0
+
 same-length-7 : tie.Need-same-length-7
-same-length-7 c = search needs
+same-length-7 c = c .before .before .before .before .before .before .before .before .before .before .before .before .before .read-job .kept .1 .1 .0
 
--- src/lib.rt:426:1
 same-length-8 : tie.Need-same-length-8
-same-length-8 c = search needs
+same-length-8 c = c .before .before .by-hcaa .kept .1 .1 .1 .1 .1 .0
 
--- src/lib.rt:426:1
-same-length-9 : tie.Need-same-length-9
-same-length-9 c = search needs
-
--- src/lib.rt:426:1
 returns-3 : tie.Need-returns-3
 returns-3 c = search needs
 
@@ -174,7 +135,6 @@ list-job-spec =
     (tie.spec
     read-job-requires
     enum-known-read
-    refused-requires
     enum-known-read-2
     mul-cells
     slice-reshare-prefix-by-hrp
@@ -191,13 +151,12 @@ list-job-spec =
     by-hcaa-requires
     same-length
     same-length-2
-    same-length-3
     returns
+    same-length-3
     same-length-4
     same-length-5
-    same-length-6
     returns-2
+    same-length-6
     same-length-7
     same-length-8
-    same-length-9
     returns-3)

@@ -1,0 +1,109 @@
+-- What is judged before a call is made, and what refusal 6 has beside its number. Assumes nothing.
+use Prim.Native.Nat.{ℕ, suc, _-_, _*_, _<_, _≤_}
+use mathlib.Core.Path.{_≡_, refl, ap, _∙_}
+use mathlib.Core.Bool.{Bool, true, false, cond}
+use mathlib.Core.List.{List, [], _∷_, _++_}
+use native.Mathlib.Omega.{arith}
+use borrow.Author.Tests.{lt-ltb, le-ltb}
+use lib.Dec.{ltb}
+use lib.ListN.{length, getD, set, length-replicate}
+use Rattle.refusal.specs.Refusal.{valuesOf}
+use Rattle.refusal.specs.Table.{Line, first, orElse, andThen}
+use Rattle.refusal.specs.declared.Refusal.{Refusal}
+use Rattle.refusal.specs.declared.Refusal.the-variants.{NoData, UnknownAllocationMetric, DimensionMismatch, MissingExpectedReturnsForSharpe, UnknownReturns, InvalidNumClusters, UnknownDistance, UnknownLinkage, OverLimit, SliceLength, ShortBuffer, WeightOutOfRange, NoTree, MalformedText, MissingReturnsForTailRisk, ConfidenceOutOfRange}
+use Rattle.refusal.specs.declared.Outcome.{Outcome}
+use Rattle.refusal.specs.declared.Outcome.the-variants.{Done, Refused}
+use Rattle.refusal.proofs.Tables.{first-append}
+use Rattle.lent.specs.Grid.{noughts}
+use Rattle.lent.specs.Lent.{sizes}
+use Rattle.linkage.specs.Names.{linkageNamed}
+use Rattle.foreign.specs.Foreign.{linkageSays, askedLines, askedLaid, mergeSizes}
+use Rattle.foreign.proofs.Stages.{then-assoc, one-line, numberIn}
+
+-- ---- HCAA
+
+-- what the code joins is the stages in their order
+pub hcaa-judged : (m r l d : Outcome) (count : ℕ) (a b x y z u v o : Outcome) → a ≡ m → b ≡ r → x ≡ l → y ≡ d → z ≡ andThen x y → u ≡ orElse (ltb count 2) ShortBuffer z → v ≡ andThen b u → o ≡ andThen a v
+    → o ≡ andThen m (andThen r (andThen (first (askedLines count)) (andThen l d)))
+unfolding askedLines
+hcaa-judged m r l d count a b x y z u v o ea eb ex ey ez eu ev eo = rw (eo, ev, eu, ez, ey, ex, eb, ea, one-line)
+
+no-values : (n : ℕ) → noughts n ≡ noughts (n - 0)
+no-values n = ap noughts (let e : n ≡ n - 0 = omega arith in e)
+
+-- refusal 6 has two values, and no other refusal has any
+values-put : (m : ℕ) (r : Refusal) → set (set (noughts (suc (suc m))) 0 (getD (valuesOf r) 0 0)) 1 (getD (valuesOf r) 1 0) ≡ valuesOf r ++ noughts (suc (suc m) - length (valuesOf r))
+values-put m NoData = no-values (suc (suc m))
+values-put m UnknownAllocationMetric = no-values (suc (suc m))
+values-put m DimensionMismatch = no-values (suc (suc m))
+values-put m MissingExpectedReturnsForSharpe = no-values (suc (suc m))
+values-put m UnknownReturns = no-values (suc (suc m))
+values-put m (InvalidNumClusters k n) = ap (λ x. k ∷ n ∷ noughts x) (let e : m ≡ suc (suc m) - 2 = omega arith in e)
+values-put m UnknownDistance = no-values (suc (suc m))
+values-put m UnknownLinkage = no-values (suc (suc m))
+values-put m OverLimit = no-values (suc (suc m))
+values-put m SliceLength = no-values (suc (suc m))
+values-put m ShortBuffer = no-values (suc (suc m))
+values-put m WeightOutOfRange = no-values (suc (suc m))
+values-put m NoTree = no-values (suc (suc m))
+values-put m MalformedText = no-values (suc (suc m))
+values-put m MissingReturnsForTailRisk = no-values (suc (suc m))
+values-put m ConfidenceOutOfRange = no-values (suc (suc m))
+
+pub blank-length : (room : ℕ) (blank : List ℕ) → blank ≡ noughts room → length blank ≡ room
+blank-length room blank z = ap length z ∙ length-replicate {A = ℕ} room 0
+
+-- its numbers beside it: the buffer is cleared to blank before
+module _ (room : ℕ) (said : Outcome) (blank : List ℕ) (z : blank ≡ noughts room) where
+  pub tell-done : said ≡ Done → blank ≡ askedLaid said room
+  unfolding askedLaid
+  tell-done h = rw (z, h) (go (ltb room 2))
+    where
+      go : (t : Bool) → noughts room ≡ cond t (noughts room) (noughts (room - 0))
+      go true = refl
+      go false = no-values room
+
+  pub tell-short : length blank < 2 → blank ≡ askedLaid said room
+  unfolding askedLaid
+  tell-short h = rw (lt-ltb room 2 (omega (arith, h, blank-length room blank z))) z
+
+  pub tell-put : 2 ≤ length blank → (k : Refusal) → said ≡ Refused k → (x y : ℕ) → x ≡ getD (valuesOf k) 0 0 → y ≡ getD (valuesOf k) 1 0 → set (set blank 0 x) 1 y ≡ askedLaid said room
+  unfolding askedLaid
+  tell-put h k e x y ex ey =
+      let long : 2 ≤ room = omega (arith, h, blank-length room blank z) in
+      let m : room ≡ suc (suc (room - 2)) = omega (arith, long) in
+      rw (e, le-ltb room 2 long, z, ex, ey, m) (values-put (room - 2) k)
+
+-- a number that is 0 is no refusal's
+number-some : (r : Refusal) → numberIn (Refused r) ≡ 0 → ⊥
+number-some NoData e = omega arith
+number-some UnknownAllocationMetric e = omega arith
+number-some DimensionMismatch e = omega arith
+number-some MissingExpectedReturnsForSharpe e = omega arith
+number-some UnknownReturns e = omega arith
+number-some (InvalidNumClusters k n) e = omega arith
+number-some UnknownDistance e = omega arith
+number-some UnknownLinkage e = omega arith
+number-some OverLimit e = omega arith
+number-some SliceLength e = omega arith
+number-some ShortBuffer e = omega arith
+number-some WeightOutOfRange e = omega arith
+number-some NoTree e = omega arith
+number-some MalformedText e = omega arith
+number-some MissingReturnsForTailRisk e = omega arith
+number-some ConfidenceOutOfRange e = omega arith
+
+pub number-done : (o : Outcome) → numberIn o ≡ 0 → o ≡ Done
+number-done Done e = refl
+number-done (Refused r) e = absurd (number-some r e)
+
+-- ---- the merge step
+
+-- what the code joins is the lines of its sizes, and then the name
+pub merge-judged : (len rows w room : ℕ) (name : List ℕ) (sized : Outcome) (short : Bool) (known rest : Outcome)
+    → sized ≡ first (sizes len rows w) → short ≡ ltb room (2 * (w - 1)) → known ≡ linkageSays (linkageNamed name) → rest ≡ orElse short ShortBuffer known
+    → andThen sized rest ≡ andThen (first (mergeSizes len rows w room)) (linkageSays (linkageNamed name))
+unfolding mergeSizes
+merge-judged len rows w room name sized short known rest a b d e =
+    let l : List Line = (ltb room (2 * (w - 1)), ShortBuffer) ∷ [] in
+    rw (a, e, b, d, one-line, first-append (sizes len rows w) l) (simp then-assoc)
