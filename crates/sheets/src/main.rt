@@ -1,52 +1,45 @@
-// Runs many job texts. They stand in standard input, parted by a byte 0; each listing is written with a line `--` after it, on which stands how many
-// bytes past the listing the call left that are not zero.
+// Runs many job texts. They stand in standard input, parted by a byte 0; each listing, or the line of its refusal, is written with a line `--` after it,
+// on which stands how many bytes past the listing the call left that are not zero: of all of them after a refusal.
+// oracle/sheets.py makes the listings from document 01's words.
+use channel::Input;
+use listing::Listed;
 
-ghost use mathlib.Core.Path.{_≡_};
-ghost use Prim.Native.Nat.{_≤_};
-ghost use lib.ListN.{length};
-
-// A mebibyte of zeros. Its contract gives the length alone, so that no proof looks into it.
-fn space() -> [u8; 1048576]
-    ensures { λ r. ⌜ 1048576 ≡ length r ⌝ }
-{
-    [0; 1048576]
+// The first k bytes, and the line after them. Answers whether all was taken.
+fn write(out: &[u8], k: usize) -> bool {
+    let mut digits = [0u8; 20];
+    let left = recorded::unclean_bytes(recorded::byte_part(out, k, out.len()));
+    let d = io::decimal(left as u64, &mut digits);
+    channel::write(recorded::byte_part(out, 0, k))
+        && channel::write(b"-- ")
+        && channel::write(&digits[..d])
+        && channel::write(b"\n")
 }
 
-// How many bytes are not 0.
-fn unclean(rest: &[u8]) -> usize {
-    let mut n = 0;
-    let mut i = 0;
-    while i < rest.len() {
-        if rest[i] != 0 {
-            n += 1;
-        }
-        i += 1;
-    }
-    n
-}
-
-fn write(out: &[u8], k: usize)
-    requires { ⌜ k ≤ length (now out) ⌝ }
-{
-    io::write_all(1, &out[..k]);
-    io::write_all(1, b"-- ");
-    io::print_decimal(1, unclean(&out[k..]) as u64);
-    io::write_all(1, b"\n");
+// The line of a refusal; nothing where there is none.
+fn write_refusal(listed: Listed) -> bool {
+    let Listed::Refused(given) = listed else {
+        return true;
+    };
+    let mut line = [0u8; 16];
+    let written = listing::refusal_line(refusal::number(given), &mut line);
+    channel::write(recorded::byte_part(&line, 0, listing::bytes(written)))
 }
 
 // One text, in a buffer full of junk.
-fn run(text: &[u8]) {
+fn run(text: &[u8]) -> bool {
     let mut out = [7u8; 8192];
     let listed = job::text_to_listing(text, &mut out);
-    write(&out, job::bytes(listed));
+    write_refusal(listed) && write(&out, listing::bytes(listed))
 }
 
-// Every text.
+// Every text, as long as its listing is taken.
 fn run_all(text: &[u8]) {
     let mut at = 0;
     loop {
         let e = fields::end_of(text, 0, at);
-        run(&text[at..e]);
+        if !run(&text[at..e]) {
+            return;
+        }
         if e == text.len() {
             return;
         }
@@ -55,7 +48,10 @@ fn run_all(text: &[u8]) {
 }
 
 fn main() {
-    let mut text = space();
-    let n = io::read_full(0, &mut text);
-    run_all(&text[..n]);
+    let mut text = recorded::space();
+    let input = channel::read_all(&mut text);
+    let Input::Text(n) = input else {
+        return;
+    };
+    run_all(recorded::byte_part(&text, 0, n));
 }

@@ -1,72 +1,73 @@
+-- `weights::main` is safe, and ends. Assumes nothing.
 use mathlib.Core.Path.{sym}
 use native.Mathlib.Omega.{arith}
 use lib.Seq.{length-take-le}
+use Rattle.channel.proofs.Laws.{read-text}
 use borrow.Author.Needs.{needs}
 use Rattle.weights.proofs.main.Statement.{statement}
 use Rattle.weights.proofs.main.Tie as tie
-use Rattle.weights.proofs.main.Reads as reads
-use Rattle.weights.proofs.main.Lts as lts
-use Rattle.io.proofs.read_full.Reads as read-full-reads
-use Rattle.io.proofs.write_all.Reads as write-all-reads
-use Rattle.job.proofs.bytes.Reads as bytes-reads
-use Rattle.job.proofs.text_to_listing.Reads as text-to-listing-reads
 
--- src/main.rt:6:30
-slice-aggregate-read-full : tie.Need-slice-aggregate-read-full
-slice-aggregate-read-full c = search needs
+slice-aggregate-read : tie.Need-slice-aggregate-read
+slice-aggregate-read c = search needs
 
--- src/main.rt:6:9
-read-full-requires : tie.Need-read-full-requires
-read-full-requires c κs = search needs
+read-requires : tie.Need-read-requires
+read-requires c κs = search needs
 
--- src/main.rt:8:39
+enum-known-input : tie.Need-enum-known-input
+enum-known-input c = search needs
+
+enum-told : tie.Need-enum-told
+enum-told c = search needs
+
+returns : tie.Need-returns
+returns c = search needs
+
 array-share-prefix-text : tie.Need-array-share-prefix-text
-array-share-prefix-text c = search needs
+array-share-prefix-text c = omega (arith, read-text _ _ _ (c .before .input .given .1) (c .before .before .before .before .read .ensures) .0)
 
--- src/main.rt:8:39
 slice-aggregate-text-to-listing : tie.Need-slice-aggregate-text-to-listing
-slice-aggregate-text-to-listing c = search needs
+slice-aggregate-text-to-listing c = read-text _ _ _ (c .before .before .input .given .1) (c .before .before .before .before .before .read .ensures) .1
 
--- src/main.rt:8:51
 slice-aggregate-text-to-listing-2 : tie.Need-slice-aggregate-text-to-listing-2
 slice-aggregate-text-to-listing-2 c = search needs
 
--- src/main.rt:8:9
 text-to-listing-requires : tie.Need-text-to-listing-requires
 text-to-listing-requires c κs = search needs
 
--- src/main.rt:9:9
+write-refusal-requires : tie.Need-write-refusal-requires
+write-refusal-requires c κs = search needs
+
 bytes-requires : tie.Need-bytes-requires
 bytes-requires c κs = search needs
 
--- src/main.rt:10:22
 array-share-prefix-out : tie.Need-array-share-prefix-out
 array-share-prefix-out c = search needs
 
--- src/main.rt:10:22
-slice-aggregate-write-all : tie.Need-slice-aggregate-write-all
-slice-aggregate-write-all c = sym (length-take-le _ _ (omega (arith, c .before .bytes .ensures, c .before .before .before .text-to-listing .ensures .1 .1)))
+slice-aggregate-write : tie.Need-slice-aggregate-write
+slice-aggregate-write c = sym (length-take-le _ _ (omega (arith, c .before .bytes .ensures, c .before .before .before .before .text-to-listing .ensures .made .within)))
 
--- src/main.rt:10:5
-write-all-requires : tie.Need-write-all-requires
-write-all-requires c κs = search needs
+write-requires : tie.Need-write-requires
+write-requires c κs = search needs
 
--- src/main.rt:3:1
-returns : tie.Need-returns
-returns c = search needs
+returns-2 : tie.Need-returns-2
+returns-2 c = search needs
 
 pub main-spec : {M : Type 1} → statement M
 main-spec =
     tie.close
     (tie.spec
-    slice-aggregate-read-full
-    read-full-requires
+    slice-aggregate-read
+    read-requires
+    enum-known-input
+    enum-told
+    returns
     array-share-prefix-text
     slice-aggregate-text-to-listing
     slice-aggregate-text-to-listing-2
     text-to-listing-requires
+    write-refusal-requires
     bytes-requires
     array-share-prefix-out
-    slice-aggregate-write-all
-    write-all-requires
-    returns)
+    slice-aggregate-write
+    write-requires
+    returns-2)

@@ -1,7 +1,7 @@
 //! Job texts to listings.
-use crate::buffers::number;
+use crate::buffers::{number, Verdict};
 use crate::case::{weight_of_rooms, Case, Desk, Judged, Listed};
-use crate::ours::rovignesc_listing;
+use crate::ours::{rovignesc_listing, rovignesc_refusal_line};
 use crate::random::Random;
 use crate::sheet::{self, LISTING_ROOM};
 use crate::texts;
@@ -11,6 +11,22 @@ pub struct Listing {
     text: Vec<u8>,
     /// Of the listing, and of the count.
     rooms: [usize; 2],
+}
+
+/// The line of a number, in a buffer that is long enough, just enough, or one too short: then 11, and zeros.
+fn line_of(refusal: u8, desk: &mut Desk, junk: &mut Random) -> Verdict {
+    let line = sheet::refusal_line(refusal);
+    let room = line.len() + junk.pick(&[0, 1, 7]) - 1;
+    let due = if room < line.len() { 11 } else { 0 };
+    desk.listing.dirty(room, junk);
+    desk.count.dirty(1, junk);
+    // The slices are the desk's own, and none of them overlaps another.
+    let ours = unsafe { rovignesc_refusal_line(refusal, desk.listing.at(), desk.listing.len(), desk.count.at(), desk.count.len()) };
+    let written = if due == 0 { line } else { Vec::new() };
+    let count = Some(written.len()).filter(|&len| len > 0);
+    number(ours, due)
+        .and_then(|()| desk.listing.holds("the refusal's line", &written))
+        .and_then(|()| desk.count.holds("its bytes", count.as_slice()))
 }
 
 impl Case for Listing {
@@ -45,7 +61,8 @@ impl Case for Listing {
         let verdict = number(ours, due)
             .and_then(|()| desk.listing.holds("listing", &listing))
             .and_then(|()| desk.count.holds("bytes", count.as_slice()))
-            .and_then(|()| desk.bytes[0].unchanged("text", &self.text));
+            .and_then(|()| desk.bytes[0].unchanged("text", &self.text))
+            .and_then(|()| line_of(due, desk, junk));
         Judged { number: due, listed: Listed::No, verdict }
     }
 

@@ -123,4 +123,12 @@ extern "C" {
         bytes: *mut usize,
         bytes_len: usize,
     ) -> u8;
+
+    pub fn rovignesc_refusal_line(
+        number: u8,
+        line: *mut u8,
+        line_len: usize,
+        bytes: *mut usize,
+        bytes_len: usize,
+    ) -> u8;
 }

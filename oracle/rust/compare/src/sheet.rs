@@ -167,16 +167,22 @@ fn done(text: &[u8]) -> Result<Vec<u8>, u8> {
     listed(&job, &allocated(&job)?)
 }
 
-/// "Order: 9, 15, 8, 7, the allocator's, 13", with 11 after 9. The number, or 0, and the listing: there is none in buffers that are too short.
+/// "a refusal prints `refused`, tab, number"
+pub fn refusal_line(number: u8) -> Vec<u8> {
+    format!("refused\t{number}\n").into_bytes()
+}
+
+/// "Order: 9, 15, 8, 7, the allocator's, 13", with 11 after 9. The number, or 0, and the listing: a refused text has none.
 pub fn listing(text: &[u8], room: usize, count_room: usize) -> (u8, Vec<u8>) {
-    let short = room < LISTING_ROOM || count_room < 1;
-    let over = text.len() > MOST_BYTES;
-    if short {
-        return (if over { 9 } else { 11 }, Vec::new());
+    if text.len() > MOST_BYTES {
+        return (9, Vec::new());
     }
-    match if over { Err(9) } else { done(text) } {
+    if room < LISTING_ROOM || count_room < 1 {
+        return (11, Vec::new());
+    }
+    match done(text) {
         Ok(listing) => (0, listing),
-        Err(number) => (number, format!("refused\t{number}\n").into_bytes()),
+        Err(number) => (number, Vec::new()),
     }
 }
 
@@ -204,9 +210,9 @@ C\t0000000000000000\t0000000000000000\t3ff0000000000000
         assert_eq!(worked("2"), (0, due.into()));
         let third = "3fd5555555555555\t333333";
         assert_eq!(worked("1"), (0, format!("A\t{third}\nB\t{third}\nC\t{third}\norder\tC\tA\tB\n")));
-        assert_eq!(worked("0"), (6, "refused\t6\n".into()));
-        assert_eq!(worked("4"), (6, "refused\t6\n".into()));
-        assert_eq!(worked("0000000002"), (15, "refused\t15\n".into()));
+        assert_eq!(worked("0"), (6, String::new()));
+        assert_eq!(worked("4"), (6, String::new()));
+        assert_eq!(worked("0000000002"), (15, String::new()));
     }
 
     #[test]

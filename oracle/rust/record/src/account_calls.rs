@@ -1,4 +1,4 @@
-//! The calls of the program `accounts`: clusters, the bisection, and HRP's whole accounts.
+//! The calls of the programs `risks` and `hrp_accounts`: clusters, the bisection, and HRP's whole accounts.
 use crate::calls::{table, Answer, Cells, Line, Record, Table};
 use crate::rules::{self, need, Handed};
 use nalgebra::DMatrix;

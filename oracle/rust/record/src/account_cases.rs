@@ -1,4 +1,4 @@
-//! What the program `accounts` is run on.
+//! What the programs `risks`, `hrp_accounts` and `hcaa_accounts` are run on.
 #![allow(unused_must_use)]
 use crate::account_calls::{Hrp, Matrix};
 use crate::calls::Record;

@@ -171,14 +171,18 @@ fn told(answer: &Answer) -> Line {
 pub struct Record {
     pub calls: String,
     pub answers: String,
+    /// The opcodes whose calls are written; the others are made all the same, so that the cases after them stay what they are.
+    pub played: &'static [usize],
     /// How many calls each opcode has, and of these how many are done.
     pub counts: [(usize, usize); 14],
 }
 
 impl Record {
     pub fn put_lines(&mut self, code: usize, call: Line, answer: Line, done: bool) {
-        writeln!(self.calls, "{}", call.0).unwrap();
-        writeln!(self.answers, "{}", answer.0).unwrap();
+        if self.played.contains(&code) {
+            writeln!(self.calls, "{}", call.0).unwrap();
+            writeln!(self.answers, "{}", answer.0).unwrap();
+        }
         self.counts[code].0 += 1;
         self.counts[code].1 += done as usize;
     }

@@ -1,4 +1,4 @@
-//! The calls of the program `accounts` that are HCAA's: whole accounts, a weight shared down given merge rows, and the tail-risk measures.
+//! HCAA's calls: whole accounts for `hcaa_accounts`, a weight shared down given merge rows and the tail-risk measures for `risks`.
 use crate::account_calls::{row, Matrix};
 use crate::calls::{Line, Record};
 use crate::rules::{self, need, Sizes};

@@ -1,4 +1,4 @@
-//! HCAA's accounts, and weights shared down given merge rows, for the program `accounts`.
+//! HCAA's accounts, and weights shared down given merge rows, for the programs `hcaa_accounts` and `risks`.
 use crate::account_calls::{Hrp, Matrix};
 use crate::account_cases::{figures, from_prices, from_returns, given, prices, resized, returns, shorten, DISTANCES};
 use crate::calls::Record;

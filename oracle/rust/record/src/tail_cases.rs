@@ -1,4 +1,4 @@
-//! The tail-risk metrics: both measures of a cluster, sharing by them, and accounts by them, for the program `accounts`.
+//! The tail-risk metrics: both measures of a cluster, sharing by them, and accounts by them, for the programs `risks` and `hcaa_accounts`.
 use crate::account_calls::Matrix;
 use crate::account_cases::{from_prices, from_returns, given, prices, resized, returns, shorten};
 use crate::calls::Record;
