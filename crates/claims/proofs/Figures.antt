@@ -8,7 +8,7 @@ use lib.Dec.{eqb}
 use lib.ListN.{take, replicate}
 use lib.Ieee.{Float, nan, binary64, size, span as ieee-span, climb, odd, units, round, neg, add, sum, sub, mul, div, ofInt, lt, le, eq, isNan, ofFields, ofBits, toBits}
 use Rattle.arithmetic.specs.Constants.{pz}
-use Rattle.arithmetic.specs.Arithmetic.{minOf, maxOf, absOf, clampOf, finiteOf, oneOver}
+use Rattle.arithmetic.specs.Arithmetic.{minOf, maxOf, absOf, clampOf, finiteOf, countOf, oneOver}
 use Rattle.arithmetic.specs.Root.{isqrt, root}
 use Rattle.refusal.specs.Refusal.{numberOf, valuesOf}
 use Rattle.refusal.specs.Table.{first}
@@ -29,7 +29,7 @@ use Rattle.tree.specs.Rows.{below, once, isTree}
 use Rattle.tree.specs.Tree.{grow, treeAt, leaves}
 use Rattle.tree.specs.Order as order
 use Rattle.linkage.specs.Names.{distanceNamed, linkageNamed}
-use Rattle.linkage.specs.Merge.{wardF, updateF, before, near, better, lesser, greater, offer, look, scanRow, scanFrom, scanAll, both, movable, moved, movedAll, merged, step, copied, numbered, start, stateAt, mergeRows}
+use Rattle.linkage.specs.Merge.{wardF, updateF, pairBefore, near, better, offer, look, scanRow, scanFrom, scanAll, both, movable, moved, movedAll, merged, step, copied, start, stateAt, mergeRows}
 use Rattle.linkage.specs.Children.{childrenTable, childrenOutcome, childrenRows}
 use Rattle.linkage.specs.declared.Distance.{Distance}
 use Rattle.linkage.specs.declared.Distance.the-variants.{Correlation, DistanceOfDistances}
@@ -40,7 +40,7 @@ use Rattle.reading.specs.declared.Asked.{Asked}
 use Rattle.reading.specs.declared.Asked.the-variants as asked
 use Rattle.reading.specs.declared.Reading.{Reading}
 use Rattle.reading.specs.declared.Reading.the-variants as read
-use Rattle.clusters.specs.Clusters.{recip, recipSum, shares, term, varianceOf, outside, anyLow as anyLowOf, riskTable, sizeTable, sharesOutcome, varianceOutcome, varianceAnswer}
+use Rattle.clusters.specs.Clusters.{recip, recipSum, shares, term, varianceOf, outside, anyListedLow as anyLowOf, riskTable, sizeTable, sharesOutcome, varianceOutcome, varianceAnswer}
 use Rattle.clusters.specs.Shares.{isNone, weightsIn}
 use Rattle.ordering.specs.Order as ordered
 use Rattle.ordering.specs.Nearest as nearest
@@ -49,8 +49,9 @@ use Rattle.bisection.specs.Bisection as bisection
 use Rattle.sharing.specs.Names.{metricNamed}
 use Rattle.sharing.specs.Split as sharing
 use Rattle.sharing.specs.Allot as allot
-use Rattle.sharing.specs.Down.{isSharpe, isTailRisk, tailLines}
-use Rattle.inputs.specs.Inputs.{absent, rowsIn, otherColumns, otherSize, matrixLines}
+use Rattle.sharing.specs.Down.{isSharpe, isTailRisk, metricTailLines}
+use Rattle.inputs.specs.Inputs.{absent, rowsOfShape, otherColumns, otherSize, matrixLines}
+use Rattle.arranging.specs.Arranging.{distancesIn, treeRows, treeOrder}
 use Rattle.parity.specs.Parity as parity
 use Rattle.hierarchy.specs.Hierarchy as hierarchy
 use Rattle.hrp.specs.Hrp as hrp
@@ -133,7 +134,7 @@ nans l = childrenRows l (replicate 9 nan) 3 3 4
 
 -- the leaves under the last of 3 assets' nodes
 abbrev leaves3 : List ℕ → List ℕ
-leaves3 rows = order.orderOf rows 3 4 3
+leaves3 rows = order.orderLaid rows 3 4 3
 
 abbrev trees : List Bool
 trees =
@@ -154,17 +155,17 @@ trees =
 -- ---- HCAA
 
 -- n assets of this covariance: a metric, clusters, distance and linkage
-abbrev given : ℕ → List Float → List ℕ → Clusters → Distance → Linkage → hcaa.Job
-given n cov metric k d l = hcaa.job n [] Absent [] Absent cov (Of n n) [] false metric [] (ofBits binary64 half) k [] d l
+abbrev given : ℕ → List Float → List ℕ → Clusters → Distance → Linkage → hcaa.HcaaJob
+given n cov metric k d l = hcaa.hcaaJob n [] Absent [] Absent cov (Of n n) [] false metric [] (ofBits binary64 half) k [] d l
 
 -- what a call says; then, by its outcome, the bits of the weights, their millionths, and the leaf order, in buffers of just the sizes that n assets ask
-abbrev buffers : Outcome → hcaa.Job → ℕ → List ℕ
+abbrev buffers : Outcome → hcaa.HcaaJob → ℕ → List ℕ
 buffers o j n =
-    let ws : List Float = laid pz o n (weightsIn (hierarchy.weightsOf (hcaa.usedRule j) (j .distance) (j .linkage) (hcaa.usedCovariance j) n)) in
-    told o ++ (bits ws ++ (millionthsLaid ws n ++ laid 0 o n (hierarchy.orderOf (j .distance) (j .linkage) (hcaa.usedCovariance j) n)))
+    let ws : List Float = laid pz o n (weightsIn (hierarchy.hcaaShares (hcaa.usedRule j) (j .distance) (j .linkage) (hcaa.hcaaCovariance j) n)) in
+    told o ++ (bits ws ++ (millionthsLaid ws n ++ laid 0 o n (hierarchy.hcaaOrder (j .distance) (j .linkage) (hcaa.hcaaCovariance j) n)))
 
-abbrev shared : hcaa.Job → ℕ → List ℕ
-shared j n = buffers (hcaa.outcomeOf j (hierarchy.roomFor (2 * (n - 1)) n n 8192)) j n
+abbrev shared : hcaa.HcaaJob → ℕ → List ℕ
+shared j n = buffers (hcaa.hcaaOutcome j (hierarchy.hierarchyRoom (2 * (n - 1)) n n 8192)) j n
 
 abbrev pair : ℕ → ℕ → ℕ → List ℕ
 pair a b k = shared (given 2 (diagonal a b) (bytes "equal_weighting") (Count k) Correlation Single) 2
@@ -212,7 +213,7 @@ hcaas =
 -- ---- document 02, request 1: two assets of unit covariance, with rows of returns and a confidence
 
 abbrev tailed : List ℕ → ℕ → List ℕ → ℕ → Clusters → List ℕ
-tailed metric h cells q k = shared (hcaa.job 2 [] Absent (doubles cells) (Of h 2) (diagonal one one) (Of 2 2) [] false metric [] (ofBits binary64 q) k [] Correlation Single) 2
+tailed metric h cells q k = shared (hcaa.hcaaJob 2 [] Absent (doubles cells) (Of h 2) (diagonal one one) (Of 2 2) [] false metric [] (ofBits binary64 q) k [] Correlation Single) 2
 
 abbrev tails : List Bool
 tails =
@@ -232,14 +233,14 @@ tails =
 -- ---- HRP
 
 -- a covariance of n assets; what the call says, and the bits of the weights
-abbrev halving : Distance → ℕ → List Float → hrp.Job
-halving d n cov = hrp.job n [] Absent [] Absent cov (Of n n) [] false d
+abbrev halving : Distance → ℕ → List Float → hrp.HrpJob
+halving d n cov = hrp.hrpJob n [] Absent [] Absent cov (Of n n) [] false d
 
-abbrev weighed : Outcome → hrp.Job → ℕ → List ℕ
-weighed o j n = told o ++ bits (laid pz o n (weightsIn (parity.sharesOf (j .distance) (hrp.usedCovariance j) n)))
+abbrev weighed : Outcome → hrp.HrpJob → ℕ → List ℕ
+weighed o j n = told o ++ bits (laid pz o n (weightsIn (parity.hrpShares (j .distance) (hrp.hrpCovariance j) n)))
 
 abbrev halved : Distance → ℕ → List Float → List ℕ
-halved d n cov = weighed (hrp.outcomeOf (halving d n cov) (parity.roomFor (2 * (n - 1)) n n (n * n) (n * n) 8192)) (halving d n cov) n
+halved d n cov = weighed (hrp.hrpOutcome (halving d n cov) (parity.parityRoom (2 * (n - 1)) n n (n * n) (n * n) 8192)) (halving d n cov) n
 
 abbrev hrps : Distance → List Bool
 hrps d =
@@ -272,5 +273,5 @@ table = trees ++ (hcaas ++ (tails ++ (hrps Correlation ++ (hrps DistanceOfDistan
 
 -- "The P figures are proved as one table under one claim"
 pub figures : all table ≡ true
-unfolding same lower lowered isWord childrenTable childrenOutcome childrenRows wardF updateF before near better lesser greater offer look scanRow scanFrom scanAll both movable moved movedAll merged step copied numbered start stateAt mergeRows order.orderTable order.orderOutcome order.orderOf count below once isTree grow treeAt leaves onto split digit number isCell isNumeral numeralRead distanceNamed linkageNamed reading.clustersOf reading.isHrp reading.isHcaa reading.isName reading.isAsset reading.isJob reading.covarianceCell reading.covarianceIn reading.distanceField reading.textLines reading.readTable reading.readOutcome reading.jobIn reading.readOf reading.covarianceLaid hcaa.returnRows hcaa.returnColumns hcaa.returnCells hcaa.pricesRefused hcaa.rowsMade hcaa.columnsMade hcaa.cellsMade hcaa.covarianceOf hcaa.usedCovariance hcaa.metricOf hcaa.usedMetric hcaa.unnamed hcaa.isMean hcaa.isExponential hcaa.expectedOf hcaa.usedExpected hcaa.countOf hcaa.usedRule hcaa.nameLines hcaa.matrixRules hcaa.sharpeLines hcaa.hcaaTable hcaa.outcomeOf hcaa.usedInputs metricNamed isSharpe isTailRisk tailLines nearest.noPart tail.gain tail.rowReturn tail.tailSum tail.tailCount tail.mean tail.shortfall tail.wealth tail.higher tail.peak tail.fall tail.drawdown tail.conditionalDrawdown tail.shortfallOf tail.drawdownOf ordered.minus ordered.before ordered.insert ordered.insertAll ordered.sorted nearest.wholeOf nearest.place nearest.quantile hierarchy.distancesOf hierarchy.rowsOf hierarchy.orderOf hierarchy.weightsOf hierarchy.roomLines hierarchy.shareLines allot.sharesOf allot.allotted allot.insideOf allot.variedOf allot.equalOf allot.spreadOf allot.dealTo sharing.splitOf sharing.scored sharing.byRisk sharing.splitBy sharing.bounded millionthsOf inMillionths inRange every millionthsTable millionthsOutcome millionthsIn millionthsLaid hrp.pricesAlone hrp.returnRows hrp.returnCells hrp.covarianceOf hrp.usedCovariance hrp.shapeLines hrp.numberLines hrp.hrpTable hrp.outcomeOf absent rowsIn otherColumns otherSize matrixLines parity.correlationsOf parity.distancesOf parity.treeDistances parity.rowsOf parity.orderOf parity.sharesOf parity.roomLines parity.riskLines bisection.factorOf bisection.splitOf bisection.halved bisection.bisected bisection.normal bisection.weightsOf tooBig misfits overLimit otherLength sizes laid first tab grid sumTo sumOn sumRows anyTo range span isNone weightsIn recip recipSum shares term varianceOf outside anyLowOf riskTable sizeTable sharesOutcome varianceOutcome varianceAnswer correlationCell anyLow clamped distanceOf distanceCell offDiagonal square between betweenCell minOf maxOf absOf clampOf finiteOf oneOver root isqrt lt le eq isNan neg add sum sub mul div ofInt round units odd trailingZeros size ieee-span climb ofFields ofBits toBits
+unfolding same lower lowered isWord childrenTable childrenOutcome childrenRows wardF updateF pairBefore near better offer look scanRow scanFrom scanAll both movable moved movedAll merged step copied start stateAt mergeRows order.orderTable order.orderOutcome order.orderLaid count below once isTree grow treeAt leaves onto split digit number isCell isNumeral numeralRead distanceNamed linkageNamed reading.clustersOf reading.isHrp reading.isHcaa reading.isName reading.isAsset reading.isJob reading.textCell reading.covarianceIn reading.distanceField reading.textLines reading.readTable reading.readOutcome reading.jobIn reading.readOf reading.covarianceLaid hcaa.hcaaReturnRows hcaa.returnColumns hcaa.hcaaReturnCells hcaa.pricesRefused hcaa.rowsMade hcaa.columnsMade hcaa.cellsMade hcaa.hcaaCovarianceBy hcaa.hcaaCovariance hcaa.metricOf hcaa.usedMetric hcaa.unnamed hcaa.isMean hcaa.isExponential hcaa.expectedOf hcaa.usedExpected hcaa.clusterCount hcaa.usedRule hcaa.nameLines hcaa.matrixRules hcaa.sharpeLines hcaa.hcaaTable hcaa.hcaaOutcome hcaa.usedInputs metricNamed isSharpe isTailRisk metricTailLines nearest.noPart tail.gain tail.rowReturn tail.tailSum tail.tailCount tail.mean tail.shortfall tail.wealth tail.higher tail.peak tail.fall tail.drawdown tail.conditionalDrawdown tail.shortfallOf tail.drawdownOf ordered.hasMinus ordered.before ordered.insert ordered.insertAll ordered.sorted nearest.wholeOf nearest.place nearest.quantile hierarchy.hcaaRows hierarchy.hcaaOrder hierarchy.hcaaShares hierarchy.hierarchyRoomLines hierarchy.shareLines allot.downShares allot.allotted allot.insideOf allot.variedOf allot.equalOf allot.spreadOf allot.dealTo sharing.splitOf sharing.scored sharing.byRisk sharing.splitBy sharing.bounded millionthsOf inMillionths inRange every millionthsTable millionthsOutcome millionthsIn millionthsLaid hrp.pricesAlone hrp.hrpReturnRows hrp.hrpReturnCells hrp.hrpCovarianceBy hrp.hrpCovariance hrp.hrpShapeLines hrp.numberLines hrp.hrpTable hrp.hrpOutcome absent rowsOfShape otherColumns otherSize matrixLines parity.correlationsOf parity.hrpDistances parity.treeDistances distancesIn treeRows treeOrder parity.hrpRows parity.hrpOrder parity.hrpShares parity.parityRoomLines parity.hrpRiskLines bisection.factorOf bisection.sidesFactor bisection.halved bisection.bisected bisection.normal bisection.bisectionShares tooBig misfits overLimit otherLength sizes laid first tab grid sumTo sumOn sumRows anyTo range span isNone weightsIn recip recipSum shares term varianceOf outside anyLowOf riskTable sizeTable sharesOutcome varianceOutcome varianceAnswer correlationCell anyLow clamped distanceOf distanceCell offDiagonal square between betweenCell minOf maxOf absOf clampOf finiteOf countOf oneOver root isqrt lt le eq isNan neg add sum sub mul div ofInt round units odd trailingZeros size ieee-span climb ofFields ofBits toBits
 figures = refl

@@ -36,6 +36,7 @@ use Rattle.lent.proofs.clear_bytes as lent·clear-bytes
 use Rattle.lent.proofs.clear_from as lent·clear-from
 use Rattle.lent.proofs.clear_numbers_from as lent·clear-numbers-from
 use Rattle.lent.proofs.clear_bytes_from as lent·clear-bytes-from
+use Rattle.lent.proofs.copy as lent·copy
 use Rattle.lent.proofs.over_limit as lent·over-limit
 use Rattle.lent.proofs.has_other_length as lent·has-other-length
 use Rattle.lent.proofs.too_big as lent·too-big
@@ -84,15 +85,20 @@ use Rattle.ordering.proofs.quantile as ordering·quantile
 use Rattle.tails.proofs.cluster_expected_shortfall as tails·cluster-expected-shortfall
 use Rattle.tails.proofs.cluster_conditional_drawdown as tails·cluster-conditional-drawdown
 use Rattle.bisection.proofs.recursive_bisection_min_var as bisection·recursive-bisection-min-var
-use Rattle.sharing.proofs.metric_named as sharing·metric-named
-use Rattle.sharing.proofs.is_sharpe as sharing·is-sharpe
-use Rattle.sharing.proofs.is_tail_risk as sharing·is-tail-risk
+use Rattle.metrics.proofs.metric_named as metrics·metric-named
+use Rattle.metrics.proofs.is_sharpe as metrics·is-sharpe
+use Rattle.metrics.proofs.is_tail_risk as metrics·is-tail-risk
+use Rattle.metrics.proofs.split_factor as metrics·split-factor
 use Rattle.sharing.proofs.allocate_down_tree as sharing·allocate-down-tree
-use Rattle.parity.proofs.clear_all as parity·clear-all
-use Rattle.parity.proofs.judge_rooms as parity·judge-rooms
+use Rattle.rooms.proofs.clear_all as rooms·clear-all
+use Rattle.rooms.proofs.judge_rooms as rooms·judge-rooms
+use Rattle.rooms.proofs.judge_covariance as rooms·judge-covariance
+use Rattle.rooms.proofs.judge as rooms·judge
+use Rattle.arranging.proofs.arrange as arranging·arrange
 use Rattle.parity.proofs.allocate_covariance as parity·allocate-covariance
-use Rattle.hierarchy.proofs.clear_all as hierarchy·clear-all
-use Rattle.hierarchy.proofs.judge_rooms as hierarchy·judge-rooms
+use Rattle.admission.proofs.clear_all as admission·clear-all
+use Rattle.admission.proofs.judge_rooms as admission·judge-rooms
+use Rattle.admission.proofs.judge as admission·judge
 use Rattle.hierarchy.proofs.allocate_covariance as hierarchy·allocate-covariance
 use Rattle.inputs.proofs.is_absent as inputs·is-absent
 use Rattle.inputs.proofs.rows_in as inputs·rows-in
@@ -102,11 +108,23 @@ use Rattle.inputs.proofs.judge_matrices as inputs·judge-matrices
 use Rattle.inputs.proofs.sampled_returns as inputs·sampled-returns
 use Rattle.hrp.proofs.allocate as hrp·allocate
 use Rattle.hcaa.proofs.allocate as hcaa·allocate
-use Rattle.job.proofs.bytes as job·bytes
+use Rattle.listing.proofs.bytes as listing·bytes
+use Rattle.listing.proofs.sheet as listing·sheet
+use Rattle.listing.proofs.refusal_line as listing·refusal-line
 use Rattle.job.proofs.text_to_listing as job·text-to-listing
 use Rattle.millionths.proofs.millionths as millionths·millionths
-use Rattle.millionths.proofs.part as millionths·part
 use Rattle.millionths.proofs.weights_in_millionths as millionths·weights-in-millionths
+use Rattle.foreign.proofs.number as foreign·number
+use Rattle.foreign.proofs.shape as foreign·shape
+use Rattle.foreign.proofs.distance_said as foreign·distance-said
+use Rattle.foreign.proofs.linkage_said as foreign·linkage-said
+use Rattle.foreign.proofs.judge_hrp as foreign·judge-hrp
+use Rattle.foreign.proofs.tell as foreign·tell
+use Rattle.foreign.proofs.judge_hcaa as foreign·judge-hcaa
+use Rattle.foreign.proofs.judge_merge as foreign·judge-merge
+use Rattle.foreign.proofs.judge_leaves as foreign·judge-leaves
+use Rattle.foreign.proofs.number_listed as foreign·number-listed
+use Rattle.foreign.proofs.judge_bytes as foreign·judge-bytes
 use Rattle.capi.proofs.rovignesc_sqrt as capi·rovignesc-sqrt
 use Rattle.capi.proofs.rovignesc_hrp as capi·rovignesc-hrp
 use Rattle.capi.proofs.rovignesc_hcaa as capi·rovignesc-hcaa
@@ -114,6 +132,7 @@ use Rattle.capi.proofs.rovignesc_covariance as capi·rovignesc-covariance
 use Rattle.capi.proofs.rovignesc_linkage_children as capi·rovignesc-linkage-children
 use Rattle.capi.proofs.rovignesc_quasi_diagonalization as capi·rovignesc-quasi-diagonalization
 use Rattle.capi.proofs.rovignesc_listing as capi·rovignesc-listing
+use Rattle.capi.proofs.rovignesc_refusal_line as capi·rovignesc-refusal-line
 
 -- ---- the law: what is the same as a third is the same
 
@@ -132,8 +151,8 @@ Four = List ℕ × (List ℕ × (List Float × (List Float × Unit {0})))
 abbrev Six : Type 0
 Six = List ℕ × (List ℕ × (List Float × (List Float × (List Float × (List Float × Unit {0})))))
 
-four-laid : {o : Outcome} {u : hierarchy.Rule} {d : Distance} {l : Linkage} {cov : List Float} {n : ℕ} {room : hierarchy.Room} {rows order rows′ order′ : List ℕ} {w s w′ s′ : List Float}
-    → hierarchy.Laid o u d l cov n room rows order w s → hierarchy.Laid o u d l cov n room rows′ order′ w′ s′
+four-laid : {o : Outcome} {u : hierarchy.Rule} {d : Distance} {l : Linkage} {cov : List Float} {n : ℕ} {room : hierarchy.HierarchyRoom} {rows order rows′ order′ : List ℕ} {w s w′ s′ : List Float}
+    → hierarchy.HierarchyLaid o u d l cov n room rows order w s → hierarchy.HierarchyLaid o u d l cov n room rows′ order′ w′ s′
     → _≡_ {A = Four} (rows, (order, (w, (s, tt)))) (rows′, (order′, (w′, (s′, tt))))
 four-laid p q i =
     let rows = sole (p .rows-are) (q .rows-are) in
@@ -142,8 +161,8 @@ four-laid p q i =
     let scratch = sole (p .scratch-is) (q .scratch-is) in
     (rows i, (order i, (weights i, (scratch i, tt))))
 
-four-zeros : {room : hierarchy.Room} {rows order rows′ order′ : List ℕ} {w s w′ s′ : List Float}
-    → hierarchy.Cleared room rows order w s → hierarchy.Cleared room rows′ order′ w′ s′
+four-zeros : {room : hierarchy.HierarchyRoom} {rows order rows′ order′ : List ℕ} {w s w′ s′ : List Float}
+    → hierarchy.HierarchyCleared room rows order w s → hierarchy.HierarchyCleared room rows′ order′ w′ s′
     → _≡_ {A = Four} (rows, (order, (w, (s, tt)))) (rows′, (order′, (w′, (s′, tt))))
 four-zeros p q i =
     let rows = sole (p .rows-are) (q .rows-are) in
@@ -152,8 +171,8 @@ four-zeros p q i =
     let scratch = sole (p .scratch-is) (q .scratch-is) in
     (rows i, (order i, (weights i, (scratch i, tt))))
 
-six-laid : {o : Outcome} {d : Distance} {cov : List Float} {n : ℕ} {room : parity.Room} {rows order rows′ order′ : List ℕ} {w c t s w′ c′ t′ s′ : List Float}
-    → parity.Laid o d cov n room rows order w c t s → parity.Laid o d cov n room rows′ order′ w′ c′ t′ s′
+six-laid : {o : Outcome} {d : Distance} {cov : List Float} {n : ℕ} {room : parity.ParityRoom} {rows order rows′ order′ : List ℕ} {w c t s w′ c′ t′ s′ : List Float}
+    → parity.ParityLaid o d cov n room rows order w c t s → parity.ParityLaid o d cov n room rows′ order′ w′ c′ t′ s′
     → _≡_ {A = Six} (rows, (order, (w, (c, (t, (s, tt)))))) (rows′, (order′, (w′, (c′, (t′, (s′, tt))))))
 six-laid p q i =
     let rows = sole (p .rows-are) (q .rows-are) in
@@ -164,8 +183,8 @@ six-laid p q i =
     let scratch = sole (p .scratch-is) (q .scratch-is) in
     (rows i, (order i, (weights i, (correlations i, (distances i, (scratch i, tt))))))
 
-six-zeros : {room : parity.Room} {rows order rows′ order′ : List ℕ} {w c t s w′ c′ t′ s′ : List Float}
-    → parity.Cleared room rows order w c t s → parity.Cleared room rows′ order′ w′ c′ t′ s′
+six-zeros : {room : parity.ParityRoom} {rows order rows′ order′ : List ℕ} {w c t s w′ c′ t′ s′ : List Float}
+    → parity.ParityCleared room rows order w c t s → parity.ParityCleared room rows′ order′ w′ c′ t′ s′
     → _≡_ {A = Six} (rows, (order, (w, (c, (t, (s, tt)))))) (rows′, (order′, (w′, (c′, (t′, (s′, tt))))))
 six-zeros p q i =
     let rows = sole (p .rows-are) (q .rows-are) in
@@ -253,6 +272,9 @@ lent-clear-numbers-from κs a r r′ e e′ p q = (refl, λ i. (sole p q i, (tt,
 
 pub lent-clear-bytes-from : Sole lent·clear-bytes-from.ended lent·clear-bytes-from.Reads.Post
 lent-clear-bytes-from κs a r r′ e e′ p q = (refl, λ i. (sole p q i, (tt, tt)))
+
+pub lent-copy : Sole lent·copy.ended lent·copy.Reads.Post
+lent-copy κs a r r′ e e′ p q = (refl, λ i. (tt, (sole p q i, tt)))
 
 pub lent-over-limit : Sole lent·over-limit.ended lent·over-limit.Reads.Post
 lent-over-limit κs a r r′ e e′ p q = (sole p q, refl)
@@ -422,38 +444,55 @@ tails-cluster-conditional-drawdown κs a r r′ e e′ p q = (sole (p .0) (q .0)
 pub bisection-recursive-bisection-min-var : Sole bisection·recursive-bisection-min-var.ended bisection·recursive-bisection-min-var.Reads.Post
 bisection-recursive-bisection-min-var κs a r r′ e e′ p q = (sole (p .0) (q .0), λ i. (tt, (tt, (tt, (tt, (sole (p .1) (q .1) i, tt))))))
 
--- ---- sharing: metrics, and sharing down given merge rows
+-- ---- metrics: their names, and the factor of a split
 
-pub sharing-metric-named : Sole sharing·metric-named.ended sharing·metric-named.Reads.Post
-sharing-metric-named κs a r r′ e e′ p q = (sole p q, refl)
+pub metrics-metric-named : Sole metrics·metric-named.ended metrics·metric-named.Reads.Post
+metrics-metric-named κs a r r′ e e′ p q = (sole p q, refl)
 
-pub sharing-is-sharpe : Sole sharing·is-sharpe.ended sharing·is-sharpe.Reads.Post
-sharing-is-sharpe κs a r r′ e e′ p q = (sole p q, refl)
+pub metrics-is-sharpe : Sole metrics·is-sharpe.ended metrics·is-sharpe.Reads.Post
+metrics-is-sharpe κs a r r′ e e′ p q = (sole p q, refl)
 
-pub sharing-is-tail-risk : Sole sharing·is-tail-risk.ended sharing·is-tail-risk.Reads.Post
-sharing-is-tail-risk κs a r r′ e e′ p q = (sole p q, refl)
+pub metrics-is-tail-risk : Sole metrics·is-tail-risk.ended metrics·is-tail-risk.Reads.Post
+metrics-is-tail-risk κs a r r′ e e′ p q = (sole p q, refl)
+
+pub metrics-split-factor : Sole metrics·split-factor.ended metrics·split-factor.Reads.Post
+metrics-split-factor κs a r r′ e e′ p q = (sole (p .0) (q .0), kept5 (λ i. (tt, (tt, (tt, (tt, (sole (p .1) (q .1) i, tt)))))))
+
+-- ---- sharing: sharing down given merge rows
 
 pub sharing-allocate-down-tree : Sole sharing·allocate-down-tree.ended sharing·allocate-down-tree.Reads.Post
 sharing-allocate-down-tree κs a r r′ e e′ p q = (sole (p .0) (q .0), kept5 (kept5 (λ i. (tt, (tt, (tt, (sole (p .1 .0) (q .1 .0) i, (sole (p .1 .1) (q .1 .1) i, tt))))))))
 
 -- ---- parity: HRP on a covariance
 
-pub parity-clear-all : Sole parity·clear-all.ended parity·clear-all.Reads.Post
-parity-clear-all κs a r r′ e e′ p q = (refl, six-zeros p q)
+pub rooms-clear-all : Sole rooms·clear-all.ended rooms·clear-all.Reads.Post
+rooms-clear-all κs a r r′ e e′ p q = (refl, six-zeros p q)
 
-pub parity-judge-rooms : Sole parity·judge-rooms.ended parity·judge-rooms.Reads.Post
-parity-judge-rooms κs a r r′ e e′ p q = (sole p q, refl)
+pub rooms-judge-rooms : Sole rooms·judge-rooms.ended rooms·judge-rooms.Reads.Post
+rooms-judge-rooms κs a r r′ e e′ p q = (sole p q, refl)
+
+pub rooms-judge-covariance : Sole rooms·judge-covariance.ended rooms·judge-covariance.Reads.Post
+rooms-judge-covariance κs a r r′ e e′ p q = (sole p q, refl)
+
+pub rooms-judge : Sole rooms·judge.ended rooms·judge.Reads.Post
+rooms-judge κs a r r′ e e′ p q = (sole p q, refl)
+
+pub arranging-arrange : Sole arranging·arrange.ended arranging·arrange.Reads.Post
+arranging-arrange κs a r r′ e e′ p q = (sole (p .answer) (q .answer), λ i. (tt, (tt, (tt, (tt, (tt, (tt, (sole (p .rows-are) (q .rows-are) i, (sole (p .order-is) (q .order-is) i, (sole (p .distances-are) (q .distances-are) i, tt))))))))))
 
 pub parity-allocate-covariance : Sole parity·allocate-covariance.ended parity·allocate-covariance.Reads.Post
 parity-allocate-covariance κs a r r′ e e′ p q = (sole (p .answer) (q .answer), λ i. (tt, (tt, (tt, (tt, six-laid (p .buffers) (q .buffers) i)))))
 
 -- ---- hierarchy: HCAA on a covariance
 
-pub hierarchy-clear-all : Sole hierarchy·clear-all.ended hierarchy·clear-all.Reads.Post
-hierarchy-clear-all κs a r r′ e e′ p q = (refl, four-zeros p q)
+pub admission-clear-all : Sole admission·clear-all.ended admission·clear-all.Reads.Post
+admission-clear-all κs a r r′ e e′ p q = (refl, four-zeros p q)
 
-pub hierarchy-judge-rooms : Sole hierarchy·judge-rooms.ended hierarchy·judge-rooms.Reads.Post
-hierarchy-judge-rooms κs a r r′ e e′ p q = (sole p q, refl)
+pub admission-judge-rooms : Sole admission·judge-rooms.ended admission·judge-rooms.Reads.Post
+admission-judge-rooms κs a r r′ e e′ p q = (sole p q, refl)
+
+pub admission-judge : Sole admission·judge.ended admission·judge.Reads.Post
+admission-judge κs a r r′ e e′ p q = (sole p q, refl)
 
 pub hierarchy-allocate-covariance : Sole hierarchy·allocate-covariance.ended hierarchy·allocate-covariance.Reads.Post
 hierarchy-allocate-covariance κs a r r′ e e′ p q = (sole (p .answer) (q .answer), kept5 (kept5 (λ i. (tt, (tt, (tt, four-laid (p .buffers) (q .buffers) i))))))
@@ -486,26 +525,66 @@ hrp-allocate κs a r r′ e e′ p q = (sole (p .answer) (q .answer), kept5 (kep
 -- ---- hcaa: HCAA
 
 pub hcaa-allocate : Sole hcaa·allocate.ended hcaa·allocate.Reads.Post
-hcaa-allocate κs a r r′ e e′ p q = (sole (p .0 .answer) (q .0 .answer), kept5 (kept5 (kept5 (λ i. (tt, four-laid (p .0 .buffers) (q .0 .buffers) i)))))
+hcaa-allocate κs a r r′ e e′ p q = (sole (p .answer) (q .answer), kept5 (kept5 (kept5 (λ i. (tt, four-laid (p .buffers) (q .buffers) i)))))
 
 -- ---- millionths: weights in millionths
 
 pub millionths-millionths : Sole millionths·millionths.ended millionths·millionths.Reads.Post
 millionths-millionths κs a r r′ e e′ p q = (sole p q, refl)
 
-pub millionths-part : Sole millionths·part.ended millionths·part.Reads.Post
-millionths-part κs a r r′ e e′ p q = (sole p q, refl)
-
 pub millionths-weights-in-millionths : Sole millionths·weights-in-millionths.ended millionths·weights-in-millionths.Reads.Post
 millionths-weights-in-millionths κs a r r′ e e′ p q = (sole (p .0) (q .0), λ i. (tt, (sole (p .1) (q .1) i, tt)))
 
+-- ---- listing: the listing of an answer, and the line of a refusal
+
+pub listing-bytes : Sole listing·bytes.ended listing·bytes.Reads.Post
+listing-bytes κs a r r′ e e′ p q = (sole p q, refl)
+
+pub listing-sheet : Sole listing·sheet.ended listing·sheet.Reads.Post
+listing-sheet κs a r r′ e e′ p q = (sole (p .answer) (q .answer), λ i. (tt, (tt, (tt, (tt, (sole (p .bytes-are) (q .bytes-are) i, tt))))))
+
+pub listing-refusal-line : Sole listing·refusal-line.ended listing·refusal-line.Reads.Post
+listing-refusal-line κs a r r′ e e′ p q = (sole (p .answer) (q .answer), λ i. (tt, (sole (p .bytes-are) (q .bytes-are) i, tt)))
+
 -- ---- job: a text to its listing
 
-pub job-bytes : Sole job·bytes.ended job·bytes.Reads.Post
-job-bytes κs a r r′ e e′ p q = (sole p q, refl)
-
 pub job-text-to-listing : Sole job·text-to-listing.ended job·text-to-listing.Reads.Post
-job-text-to-listing κs a r r′ e e′ p q = (sole (p .0) (q .0), λ i. (tt, (sole (p .1 .0) (q .1 .0) i, tt)))
+job-text-to-listing κs a r r′ e e′ p q = (sole (p .made .answer) (q .made .answer), λ i. (tt, (sole (p .made .bytes-are) (q .made .bytes-are) i, tt)))
+
+-- ---- foreign: what a call from C hands in
+
+pub foreign-number : Sole foreign·number.ended foreign·number.Reads.Post
+foreign-number κs a r r′ e e′ p q = (sole p q, refl)
+
+pub foreign-shape : Sole foreign·shape.ended foreign·shape.Reads.Post
+foreign-shape κs a r r′ e e′ p q = (sole p q, refl)
+
+pub foreign-distance-said : Sole foreign·distance-said.ended foreign·distance-said.Reads.Post
+foreign-distance-said κs a r r′ e e′ p q = (sole p q, refl)
+
+pub foreign-linkage-said : Sole foreign·linkage-said.ended foreign·linkage-said.Reads.Post
+foreign-linkage-said κs a r r′ e e′ p q = (sole p q, refl)
+
+pub foreign-judge-hrp : Sole foreign·judge-hrp.ended foreign·judge-hrp.Reads.Post
+foreign-judge-hrp κs a r r′ e e′ p q = (sole p q, refl)
+
+pub foreign-tell : Sole foreign·tell.ended foreign·tell.Reads.Post
+foreign-tell κs a r r′ e e′ p q = (sole (p .0) (q .0), λ i. (tt, (sole (p .1) (q .1) i, tt)))
+
+pub foreign-judge-hcaa : Sole foreign·judge-hcaa.ended foreign·judge-hcaa.Reads.Post
+foreign-judge-hcaa κs a r r′ e e′ p q = (sole p q, refl)
+
+pub foreign-judge-merge : Sole foreign·judge-merge.ended foreign·judge-merge.Reads.Post
+foreign-judge-merge κs a r r′ e e′ p q = (sole p q, refl)
+
+pub foreign-judge-leaves : Sole foreign·judge-leaves.ended foreign·judge-leaves.Reads.Post
+foreign-judge-leaves κs a r r′ e e′ p q = (sole p q, refl)
+
+pub foreign-number-listed : Sole foreign·number-listed.ended foreign·number-listed.Reads.Post
+foreign-number-listed κs a r r′ e e′ p q = (sole p q, refl)
+
+pub foreign-judge-bytes : Sole foreign·judge-bytes.ended foreign·judge-bytes.Reads.Post
+foreign-judge-bytes κs a r r′ e e′ p q = (sole p q, refl)
 
 -- ---- capi: the C interface
 
@@ -530,3 +609,6 @@ capi-rovignesc-quasi-diagonalization κs a r r′ e e′ p q = (sole (p .answer)
 
 pub capi-rovignesc-listing : Sole capi·rovignesc-listing.ended capi·rovignesc-listing.Reads.Post
 capi-rovignesc-listing κs a r r′ e e′ p q = (sole (p .answer) (q .answer), λ i. (tt, (sole (p .listing-is) (q .listing-is) i, (sole (p .bytes-are) (q .bytes-are) i, tt))))
+
+pub capi-rovignesc-refusal-line : Sole capi·rovignesc-refusal-line.ended capi·rovignesc-refusal-line.Reads.Post
+capi-rovignesc-refusal-line κs a r r′ e e′ p q = (sole (p .answer) (q .answer), λ i. (tt, (sole (p .line-is) (q .line-is) i, (sole (p .bytes-are) (q .bytes-are) i, tt))))
