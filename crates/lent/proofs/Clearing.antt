@@ -2,7 +2,7 @@
 use Prim.Native.Nat.{ℕ, zero, suc, _+_, _-_, _<_, _≤_}
 use mathlib.Core.Path.{_≡_, refl, sym, ap, _∙_}
 use mathlib.Core.List.{List, [], _∷_, _++_, append-assoc, append-nil}
-use native.Mathlib.Numerals.{add-one}
+use native.Mathlib.Numerals.{add-one, unary-clauses}
 use native.Mathlib.Omega.{arith}
 use lib.ListN.{length, set, take, replicate, length-set}
 use lib.Seq.{take-all, take-suc-set}
@@ -45,3 +45,7 @@ module _ {A : Type 0} where
       let same : length out ≡ length out₀ = p .same in
       let e : i - start ≡ length out₀ - start = omega arith in
       sym (take-all i out h) ∙ p .front ∙ ap (λ (k : ℕ). take start out₀ ++ replicate k z) e
+
+-- cleared from its start on
+pub cleared : (d out : List ℕ) → out ≡ take 0 d ++ replicate (length d - 0) 0 → out ≡ replicate (length d) 0
+cleared d out e = simp unary-clauses at e

@@ -136,7 +136,7 @@ module _ {A : Type 0} (z : A) (said o : Outcome) (answer : Answer) (rows w room 
 -- ---- a buffer too short, by a division
 
 -- two tests that hold together are one
-same-test : (a b c d : ℕ) → (a < b → c < d) → (c < d → a < b) → ltb a b ≡ ltb c d
+pub same-test : (a b c d : ℕ) → (a < b → c < d) → (c < d → a < b) → ltb a b ≡ ltb c d
 same-test a b c d f g =
     ⊎-elim
     (λ e. e ∙ sym (lt-ltb c d (f (ltb-true a b e))))

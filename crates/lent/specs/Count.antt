@@ -3,7 +3,6 @@ use Prim.Native.Nat.{ℕ, zero, suc, _+_}
 use mathlib.Core.Bool.{Bool, true, false}
 use mathlib.Core.List.{List, [], _∷_}
 use lib.Dec.{eqb}
-unfoldable pub use Rattle.lent.specs.Inner.{overAll}
 
 -- 1 where the test passed, and 0 where not
 abbrev pub one : Bool → ℕ
@@ -19,3 +18,8 @@ count x (y ∷ ys) = one (eqb y x) + count x ys
 unfoldable pub upto : (ℕ → ℕ) → ℕ → ℕ
 upto f zero = 0
 upto f (suc n) = upto f n + f n
+
+-- f x for each x of the list, added up
+unfoldable pub overAll : (ℕ → ℕ) → List ℕ → ℕ
+overAll f [] = 0
+overAll f (x ∷ xs) = f x + overAll f xs

@@ -1,6 +1,6 @@
 -- Document 01, "Sizes" and refusals 9, 10 and 11: matrices and lent buffers. Definitions only.
 use Prim.Native.Nat.{ℕ, _-_, _*_}
-use mathlib.Core.Bool.{Bool, false, not, _||_}
+use mathlib.Core.Bool.{Bool, false, not, cond, _||_}
 use mathlib.Core.List.{List, [], _∷_, _++_}
 use lib.Dec.{ltb, eqb}
 use lib.ListN.{length, replicate}
@@ -39,7 +39,15 @@ overLimit rows w = ltb most-rows rows || (ltb most-columns w || ltb most-cells (
 unfoldable pub otherLength : ℕ → ℕ → ℕ → Bool
 otherLength len rows w = not (eqb len (rows * w))
 
--- "An absent matrix differs from one with 0 rows": its slice is not looked at
+-- a flag is set where it is not 0
+abbrev pub isSet : ℕ → Bool
+isSet flag = not (eqb flag 0)
+
+-- "An absent matrix differs from one with 0 rows": whether it is given is said beside its sizes
+unfoldable pub shapeOf : Bool → ℕ → ℕ → Shape
+shapeOf given rows w = cond given (Of rows w) Absent
+
+-- the slice of an absent one is not looked at
 unfoldable pub tooBig : Shape → Bool
 unfolding overLimit
 tooBig Absent = false

@@ -10,7 +10,7 @@ ghost use lib.ListN.{length, take, replicate};
 ghost use Rattle.arithmetic.specs.Constants.{pz};
 ghost use Rattle.refusal.specs.Table.{first};
 ghost use Rattle.lent.specs.Grid.{zeros, noughts, over};
-ghost use Rattle.lent.specs.Lent.{tooBig, misfits, sizes, squares, overLimit, otherLength, answerOf, toldOf};
+ghost use Rattle.lent.specs.Lent.{shapeOf, tooBig, misfits, sizes, squares, overLimit, otherLength, answerOf, toldOf};
 
 pub const MOST_ASSETS: usize = 64;
 
@@ -122,6 +122,16 @@ pub fn has_other_length(len: usize, rows: usize, columns: usize) -> bool
         return true;
     }
     len / columns != rows
+}
+
+// A matrix that is given has its sizes.
+pub fn shape_if(given: bool, rows: usize, columns: usize) -> Shape
+    ensures { λ r. ⌜ r ≡ shapeOf given rows columns ⌝ }
+{
+    if given {
+        return Shape::Of { rows, columns };
+    }
+    Shape::Absent
 }
 
 pub fn too_big(shape: Shape) -> bool

@@ -1,8 +1,26 @@
--- Document 01, "Refusal numbers", and document 02, request 1: the number and the values of each case. Definitions only.
+-- Document 01, "Refusal numbers", and document 02, requests 1 and 3: the number and the values of each case. Definitions only.
 use Prim.Native.Nat.{ℕ}
 use mathlib.Core.List.{List, [], _∷_}
 use Rattle.refusal.specs.declared.Refusal.{Refusal}
-use Rattle.refusal.specs.declared.Refusal.the-variants.{NoData, UnknownAllocationMetric, DimensionMismatch, MissingExpectedReturnsForSharpe, UnknownReturns, InvalidNumClusters, UnknownDistance, UnknownLinkage, OverLimit, SliceLength, ShortBuffer, WeightOutOfRange, NoTree, MalformedText, MissingReturnsForTailRisk, ConfidenceOutOfRange}
+use Rattle.refusal.specs.declared.Refusal.the-variants.{
+  NoData,
+  UnknownAllocationMetric,
+  DimensionMismatch,
+  MissingExpectedReturnsForSharpe,
+  UnknownReturns,
+  InvalidNumClusters,
+  UnknownDistance,
+  UnknownLinkage,
+  OverLimit,
+  SliceLength,
+  ShortBuffer,
+  WeightOutOfRange,
+  NoTree,
+  MalformedText,
+  MissingReturnsForTailRisk,
+  ConfidenceOutOfRange,
+  TotalOutOfReach,
+}
 
 abbrev pub numberOf : Refusal → ℕ
 -- "`NoData`, as ordered below"
@@ -35,6 +53,8 @@ numberOf MalformedText = 15
 -- document 02, request 1: "12 is no longer given; 16, no return rows"; "17, under these two metrics, confidence NaN or outside 0 to 1"
 numberOf MissingReturnsForTailRisk = 16
 numberOf ConfidenceOutOfRange = 17
+-- document 02, request 3: "18, after 13, when the missing amount is below 0 or above the asset count"
+numberOf TotalOutOfReach = 18
 
 -- "Each refusal returns its number (6 also the count asked and the assets)"
 abbrev pub valuesOf : Refusal → List ℕ
@@ -54,3 +74,4 @@ valuesOf NoTree = []
 valuesOf MalformedText = []
 valuesOf MissingReturnsForTailRisk = []
 valuesOf ConfidenceOutOfRange = []
+valuesOf TotalOutOfReach = []

@@ -1,4 +1,5 @@
--- Document 01, last paragraph: "For each answer that is an enum, a definition gives this paper's number and values for each of the enum's cases, and the promises use that definition." Definitions only.
+-- Document 01, last paragraph. Definitions only.
+-- "For each answer that is an enum, a definition gives this paper's number and values for each of the enum's cases, and the promises use that definition."
 use Prim.Native.Nat.{ℕ}
 use mathlib.Core.List.{List, [], _∷_}
 use Rattle.refusal.specs.Refusal.{numberOf, valuesOf}

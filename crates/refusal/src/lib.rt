@@ -24,6 +24,7 @@ pub enum Refusal {
     MalformedText,
     MissingReturnsForTailRisk,
     ConfidenceOutOfRange,
+    TotalOutOfReach,
 }
 
 pub enum Outcome {
@@ -54,6 +55,7 @@ pub fn number(r: Refusal) -> u8
         Refusal::MalformedText => 15,
         Refusal::MissingReturnsForTailRisk => 16,
         Refusal::ConfidenceOutOfRange => 17,
+        Refusal::TotalOutOfReach => 18,
     }
 }
 
@@ -81,6 +83,7 @@ pub fn requested(r: Refusal) -> usize
         Refusal::MalformedText => 0,
         Refusal::MissingReturnsForTailRisk => 0,
         Refusal::ConfidenceOutOfRange => 0,
+        Refusal::TotalOutOfReach => 0,
     }
 }
 
@@ -108,6 +111,7 @@ pub fn assets(r: Refusal) -> usize
         Refusal::MalformedText => 0,
         Refusal::MissingReturnsForTailRisk => 0,
         Refusal::ConfidenceOutOfRange => 0,
+        Refusal::TotalOutOfReach => 0,
     }
 }
 

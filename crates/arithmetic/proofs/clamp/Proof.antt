@@ -1,13 +1,15 @@
 -- `arithmetic::clamp` meets its contract. Assumes nothing.
-use mathlib.Core.Path.{_∙_}
+use mathlib.Core.Path.{_≡_, _∙_}
+use mathlib.Core.Bool.{true}
 use borrow.Author.Needs.{needs}
+use lib.Ieee.{lt}
 use Rattle.arithmetic.specs.Arithmetic.{clampOf}
 use Rattle.arithmetic.proofs.clamp.Statement.{statement}
 use Rattle.arithmetic.proofs.clamp.Tie as tie
 
 returns : tie.Need-returns
 unfolding clampOf
-returns c = rw (c .if1 .taken)
+returns c = let e : lt (c .before .args .x) (c .before .args .low) ≡ true = c .if1 .taken in rw e
 
 settled-requires : tie.Need-settled-requires
 settled-requires c κs = search needs

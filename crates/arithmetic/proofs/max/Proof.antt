@@ -15,11 +15,11 @@ returns c = c .settled .ensures ∙ rw (nan-if _ _ (c .before .if1 .taken))
 
 returns-2 : tie.Need-returns-2
 unfolding maxOf
-returns-2 c = rw (nan-if _ _ (c .before .if1 .left), c .if2 .taken)
+returns-2 c = simp (nan-if _ _ (c .before .if1 .left), c .if2 .taken)
 
 returns-3 : tie.Need-returns-3
 unfolding maxOf
-returns-3 c = rw (nan-if _ _ (c .before .if1 .left), c .if2 .left)
+returns-3 c = simp (nan-if _ _ (c .before .if1 .left), c .if2 .left)
 
 pub max-spec : {M : Type 1} → statement M
 max-spec = tie.close (tie.spec settled-requires returns returns-2 returns-3)

@@ -1,5 +1,5 @@
 -- `ordering::comes_before` meets its contract. Assumes nothing.
-use mathlib.Core.Path.{_≡_}
+use mathlib.Core.Path.{_≡_, _∙_}
 use mathlib.Core.Bool.{true, false}
 use Rattle.ordering.proofs.Laws.{before-less, before-equal, before-apart, eq-left, eq-right, self-equal, differs}
 use Rattle.ordering.proofs.comes_before.Statement.{statement}
@@ -29,7 +29,7 @@ returns-3 c =
 returns-4 : tie.Need-returns-4
 returns-4 c =
     let a = c .before .before .before .args in
-    rw (before-apart (a .x) (a .y) (c .before .before .if1 .left) (c .before .if2 .left), differs (a .y), ← self-equal (a .x), c .if4 .taken)
+    differs (a .y) ∙ rw (before-apart (a .x) (a .y) (c .before .before .if1 .left) (c .before .if2 .left), ← self-equal (a .x), c .if4 .taken)
 
 returns-5 : tie.Need-returns-5
 returns-5 c =

@@ -55,53 +55,59 @@ enum-told-14 c = search needs
 enum-told-15 : tie.Need-enum-told-15
 enum-told-15 c = search needs
 
+enum-told-16 : tie.Need-enum-told-16
+enum-told-16 c = search needs
+
 returns : tie.Need-returns
 returns c = ap (λ (x : Refusal). getD (valuesOf x) 0 0) (sym (c .before .r .given .1))
 
 returns-2 : tie.Need-returns-2
-returns-2 c = search needs
+returns-2 c = ap (λ (x : Refusal). getD (valuesOf x) 0 0) (sym (c .enum-told .given .1))
 
 returns-3 : tie.Need-returns-3
-returns-3 c = search needs
+returns-3 c = ap (λ (x : Refusal). getD (valuesOf x) 0 0) (sym (c .enum-told2 .given .1))
 
 returns-4 : tie.Need-returns-4
-returns-4 c = search needs
+returns-4 c = ap (λ (x : Refusal). getD (valuesOf x) 0 0) (sym (c .enum-told3 .given .1))
 
 returns-5 : tie.Need-returns-5
-returns-5 c = search needs
+returns-5 c = ap (λ (x : Refusal). getD (valuesOf x) 0 0) (sym (c .enum-told4 .given .1))
 
 returns-6 : tie.Need-returns-6
-returns-6 c = search needs
+returns-6 c = ap (λ (x : Refusal). getD (valuesOf x) 0 0) (sym (c .enum-told5 .given .1))
 
 returns-7 : tie.Need-returns-7
-returns-7 c = search needs
+returns-7 c = ap (λ (x : Refusal). getD (valuesOf x) 0 0) (sym (c .enum-told6 .given .1))
 
 returns-8 : tie.Need-returns-8
-returns-8 c = search needs
+returns-8 c = ap (λ (x : Refusal). getD (valuesOf x) 0 0) (sym (c .enum-told7 .given .1))
 
 returns-9 : tie.Need-returns-9
-returns-9 c = search needs
+returns-9 c = ap (λ (x : Refusal). getD (valuesOf x) 0 0) (sym (c .enum-told8 .given .1))
 
 returns-10 : tie.Need-returns-10
-returns-10 c = search needs
+returns-10 c = ap (λ (x : Refusal). getD (valuesOf x) 0 0) (sym (c .enum-told9 .given .1))
 
 returns-11 : tie.Need-returns-11
-returns-11 c = search needs
+returns-11 c = ap (λ (x : Refusal). getD (valuesOf x) 0 0) (sym (c .enum-told10 .given .1))
 
 returns-12 : tie.Need-returns-12
-returns-12 c = search needs
+returns-12 c = ap (λ (x : Refusal). getD (valuesOf x) 0 0) (sym (c .enum-told11 .given .1))
 
 returns-13 : tie.Need-returns-13
-returns-13 c = search needs
+returns-13 c = ap (λ (x : Refusal). getD (valuesOf x) 0 0) (sym (c .enum-told12 .given .1))
 
 returns-14 : tie.Need-returns-14
-returns-14 c = search needs
+returns-14 c = ap (λ (x : Refusal). getD (valuesOf x) 0 0) (sym (c .enum-told13 .given .1))
 
 returns-15 : tie.Need-returns-15
-returns-15 c = search needs
+returns-15 c = ap (λ (x : Refusal). getD (valuesOf x) 0 0) (sym (c .enum-told14 .given .1))
 
 returns-16 : tie.Need-returns-16
-returns-16 c = search needs
+returns-16 c = ap (λ (x : Refusal). getD (valuesOf x) 0 0) (sym (c .enum-told15 .given .1))
+
+returns-17 : tie.Need-returns-17
+returns-17 c = ap (λ (x : Refusal). getD (valuesOf x) 0 0) (sym (c .enum-told16 .given .1))
 
 pub requested-spec : {M : Type 1} → statement M
 requested-spec =
@@ -123,6 +129,7 @@ requested-spec =
     enum-told-13
     enum-told-14
     enum-told-15
+    enum-told-16
     returns
     returns-2
     returns-3
@@ -138,4 +145,5 @@ requested-spec =
     returns-13
     returns-14
     returns-15
-    returns-16)
+    returns-16
+    returns-17)
