@@ -25,7 +25,8 @@ use Rattle.metrics.specs.declared.NamedMetric.the-variants as metric
 use Rattle.metrics.specs.declared.Splitting.{Splitting}
 use Rattle.metrics.specs.declared.Splitting.the-variants as splitting
 use Rattle.metrics.specs.Names.{metricNamed}
-use Rattle.metrics.specs.Split.{inputs, bounded, splitBy, byRisk, fair, byRatio, scoredAnswer, splitAnswer}
+use Rattle.metrics.specs.Split.{bounded, splitBy, byRisk, fair, byRatio, scoredAnswer, splitAnswer}
+use Rattle.metrics.specs.Inner.{inputs}
 
 abbrev all : List Bool → Bool
 all [] = true

@@ -25,3 +25,7 @@ pub record Tailed (returns : List Float) (h : ℕ) (confidence : Float) (n : ℕ
 pub record Fed (metric : Metric) (x : Inputs) (n : ℕ) : Type 0 where
   pub expects : metric ≡ SharpeRatio → length (x .expected) ≡ n
   pub tailed : isTailRisk metric ≡ true → Tailed (x .returns) (x .return-rows) (x .confidence) n
+
+-- what the metrics read, by its parts
+abbrev pub inputs : List Float → List Float → ℕ → Float → Inputs
+inputs e xs h q = record { expected = e; returns = xs; return-rows = h; confidence = q }

@@ -10,7 +10,7 @@ use Rattle.refusal.specs.Telling.{Telling, accepts, refuses}
 use Rattle.clusters.specs.Clusters.{varianceAnswer, expectation, ratio, sharpeAnswer}
 use Rattle.clusters.specs.Shares.{factorOf}
 use Rattle.tails.specs.Tail.{shortfallOf, drawdownOf}
-use Rattle.tails.specs.Measures.{measureCall, shortfallAnswer, drawdownAnswer}
+use Rattle.tails.specs.Measures.{MeasureCall, shortfallAnswer, drawdownAnswer}
 use Rattle.clusters.specs.declared.Risk.{Risk}
 use Rattle.clusters.specs.declared.Risk.the-variants as risk
 use Rattle.metrics.specs.declared.Metric.{Metric}
@@ -52,9 +52,6 @@ pub record Inputs : Type 0 where
   pub returns : List Float
   pub return-rows : ℕ
   pub confidence : Float
-
-abbrev pub inputs : List Float → List Float → ℕ → Float → Inputs
-inputs e xs h q = record { expected = e; returns = xs; return-rows = h; confidence = q }
 
 -- what a metric reads of a side of variance v: the variance, its root, the ratio, or a tail-risk measure
 abbrev pub readOfSide : Metric → Inputs → List Float → ℕ → List ℕ → Float → Float
@@ -100,14 +97,28 @@ splittingTells (splitting.Refused r) = refuses r
 
 -- ---- the call
 
+-- a side's tail risk is asked for over its assets, in the covariance and the rows of returns of all n
+abbrev pub sideCall : Inputs → List Float → ℕ → ℕ → List ℕ → MeasureCall
+sideCall x cov n room side = record {
+  returns = x .returns;
+  return-rows = x .return-rows;
+  return-columns = n;
+  covariance = cov;
+  covariance-rows = n;
+  covariance-columns = n;
+  assets = side;
+  confidence = x .confidence;
+  room = room;
+}
+
 -- what a metric reads of a side, as the call of its measure answers it, which is lent `room` doubles for the series
 abbrev pub readAnswer : Metric → Inputs → List Float → ℕ → ℕ → List ℕ → Float → Risk
 readAnswer MinimumVariance x cov n room side v = risk.Of v
 readAnswer MinimumStandardDeviation x cov n room side v = risk.Of (root v)
 readAnswer SharpeRatio x cov n room side v = sharpeAnswer (x .expected) cov n n side
 readAnswer EqualWeighting x cov n room side v = risk.Of v
-readAnswer ExpectedShortfall x cov n room side v = shortfallAnswer (measureCall (x .returns) (x .return-rows) n cov n n side (x .confidence) room)
-readAnswer ConditionalDrawdownRisk x cov n room side v = drawdownAnswer (measureCall (x .returns) (x .return-rows) n cov n n side (x .confidence) room)
+readAnswer ExpectedShortfall x cov n room side v = shortfallAnswer (sideCall x cov n room side)
+readAnswer ConditionalDrawdownRisk x cov n room side v = drawdownAnswer (sideCall x cov n room side)
 
 -- as `scored`, where what the metric reads may be refused: the left side first
 unfoldable pub scoredAnswer : Metric → Inputs → List Float → ℕ → List ℕ → List ℕ → ℕ → Float → Float → Splitting

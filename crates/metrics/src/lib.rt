@@ -7,7 +7,8 @@ ghost use lib.ListN.{length};
 ghost use Rattle.arithmetic.specs.Root.{root};
 ghost use Rattle.lent.specs.Grid.{zeros};
 ghost use Rattle.metrics.specs.Names.{metricNamed, isSharpe, isTailRisk};
-ghost use Rattle.metrics.specs.Split.{inputs, bounded, splitBy, byRisk, byRatio, splitOfBoth, scoredAnswer, splitAnswer};
+ghost use Rattle.metrics.specs.Split.{bounded, splitBy, byRisk, byRatio, splitOfBoth, scoredAnswer, splitAnswer};
+ghost use Rattle.metrics.specs.Inner.{inputs};
 
 // How a node's weight is shared between its two children.
 pub enum Metric {
@@ -256,7 +257,8 @@ pub fn split_factor(
     right: &[usize],
     scratch: &mut [f64],
 ) -> Splitting
-    ensures { λ s. ⌜ s ≡ splitAnswer metric (inputs (now (expected .entry)) (now (returns .entry)) «return_rows» confidence)
+    ensures { λ s. ⌜ s ≡ splitAnswer metric
+        (record { expected = now (expected .entry); returns = now (returns .entry); return-rows = «return_rows»; confidence = confidence })
         (now (cov .entry)) n (now (left .entry)) (now (right .entry)) (length (now (scratch .entry))) ⌝ }
     ensures { λ _. ⌜ now (scratch .exit) ≡ zeros (length (now (scratch .entry))) ⌝ }
 {

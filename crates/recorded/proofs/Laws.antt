@@ -12,9 +12,10 @@ use lib.Seq.{drop-cons, length-take-le, getD-set-other}
 use lib.Ieee.{Float, nan, binary64, toBits}
 use Rattle.lent.specs.declared.Shape.{Shape}
 use Rattle.lent.specs.Grid.{tab, over}
+use Rattle.lent.specs.Lent.{isSet, shapeOf}
 use Rattle.lent.proofs.Fill.{tab-step}
 use Rattle.recorded.specs.Tokens.{worthOf, tokenStart, tokenEnd, tokenValue, nextValue, nextPlace, placeAfter, tokenAt, partPlace, matrixPlace, matricesPlace}
-use Rattle.recorded.specs.Told.{Onward, tableSize, shapeRead, uncleanIn, uncleanNumbersIn}
+use Rattle.recorded.specs.Told.{Onward, tableSize, uncleanIn, uncleanNumbersIn}
 
 -- ---- tokens
 
@@ -119,8 +120,8 @@ unfolding matricesPlace
 matrices-place text at p q r room l m h k e f g =
     g ∙ ap (λ (n : ℕ). matrixPlace text q (n - 8704)) k ∙ ap (λ (n : ℕ). matrixPlace text n (room - 8704)) (f ∙ ap (λ (n : ℕ). matrixPlace text p (n - 4352)) h ∙ ap (λ (n : ℕ). matrixPlace text n (room - 4352)) (e ∙ ap (matrixPlace text at) (sub-zero room)))
 
-pub shape-read : (o : Shape) (g h r s w v : ℕ) → o ≡ shapeRead g r w → g ≡ h → r ≡ s → w ≡ v → o ≡ shapeRead h s v
-shape-read o g h r s w v e f p q = e ∙ ap (λ (k : ℕ). shapeRead k r w) f ∙ ap (λ (k : ℕ). shapeRead h k w) p ∙ ap (λ (k : ℕ). shapeRead h s k) q
+pub shape-read : (o : Shape) (g h r s w v : ℕ) → o ≡ shapeOf (isSet g) r w → g ≡ h → r ≡ s → w ≡ v → o ≡ shapeOf (isSet h) s v
+shape-read o g h r s w v e f p q = e ∙ ap (λ (k : ℕ). shapeOf (isSet k) r w) f ∙ ap (λ (k : ℕ). shapeOf (isSet h) k w) p ∙ ap (λ (k : ℕ). shapeOf (isSet h) s k) q
 
 -- d is l with the first k entries written, each made by g from its number
 module _ {A : Type 0} (g : ℕ → A) (text : List ℕ) (at : ℕ) where

@@ -3,14 +3,11 @@ use Prim.Native.Nat.{ℕ, _+_, _*_, _<_, _≤_, min}
 use mathlib.Core.Bool.{cond, _||_}
 use mathlib.Core.Path.{_≡_}
 use mathlib.Core.List.{List, [], _∷_}
-use lib.Dec.{ltb, eqb}
+use lib.Dec.{ltb}
 use lib.ListN.{length, getD}
 use lib.Ieee.{Float, binary64, toBits}
-use Rattle.refusal.specs.Refusal.{numberOf}
 use Rattle.refusal.specs.declared.Outcome.{Outcome}
 use Rattle.refusal.specs.declared.Outcome.the-variants as outcome
-use Rattle.lent.specs.declared.Shape.{Shape}
-use Rattle.lent.specs.declared.Shape.the-variants.{Absent, Of}
 use Rattle.lent.specs.declared.Answer.{Answer}
 use Rattle.lent.specs.declared.Answer.the-variants as answer
 
@@ -25,7 +22,7 @@ pub record Onward (d : List ℕ) (at : ℕ) (d′ : List ℕ) (at′ : ℕ) : Ty
 unfoldable pub tableSize : ℕ → ℕ → ℕ
 tableSize rows w = cond (ltb 4096 rows || ltb 64 w) 0 (rows * w)
 
--- the rows and columns of an answer, and the number that it tells
+-- the rows and columns of an answer
 unfoldable pub answeredRows : Answer → ℕ
 answeredRows (answer.Matrix rows w) = rows
 answeredRows (answer.Refused r) = 0
@@ -34,18 +31,10 @@ unfoldable pub answeredColumns : Answer → ℕ
 answeredColumns (answer.Matrix rows w) = w
 answeredColumns (answer.Refused r) = 0
 
-unfoldable pub answeredNumber : Answer → ℕ
-answeredNumber (answer.Matrix rows w) = 0
-answeredNumber (answer.Refused r) = numberOf r
-
 -- the assets of an account that was not refused
 unfoldable pub answeredAssets : Outcome → ℕ → ℕ
 answeredAssets outcome.Done n = n
 answeredAssets (outcome.Refused r) n = 0
-
--- a matrix that is given, where the first number is not 0
-unfoldable pub shapeRead : ℕ → ℕ → ℕ → Shape
-shapeRead given rows w = cond (eqb given 0) Absent (Of rows w)
 
 -- how many numbers are not 0, and how many doubles are not +0
 unfoldable pub uncleanNumbersIn : List ℕ → ℕ

@@ -9,8 +9,9 @@ ghost use Prim.Native.Nat.{_+_, _%_, _-_, _<_, _≤_, min};
 ghost use lib.ListN.{length, take, drop};
 ghost use lib.Ieee.{binary64, ofBits};
 ghost use Rattle.lent.specs.Grid.{tab, over};
+ghost use Rattle.lent.specs.Lent.{isSet, shapeOf, answerTells};
 ghost use Rattle.recorded.specs.Tokens.{worthOf, tokenStart, tokenEnd, tokenValue, nextValue, nextPlace, placeAfter, tokenAt, partPlace, matrixPlace, matricesPlace};
-ghost use Rattle.recorded.specs.Told.{Onward, tableSize, answeredRows, answeredColumns, answeredNumber, answeredAssets, shapeRead, uncleanIn, uncleanNumbersIn};
+ghost use Rattle.recorded.specs.Told.{Onward, tableSize, answeredRows, answeredColumns, answeredAssets, uncleanIn, uncleanNumbersIn};
 
 // A number that was read, and the place after it.
 pub struct Item {
@@ -169,22 +170,9 @@ pub fn bytes_to(text: &[u8], at: usize, names: &mut [u8], start: usize) -> Item
     }
 }
 
-// Whether a matrix is given, and its sizes.
-pub fn shape(given: u64, rows: u64, columns: u64) -> Shape
-    ensures { λ r. ⌜ r ≡ shapeRead given rows columns ⌝ }
-{
-    if given == 0 {
-        return Shape::Absent;
-    }
-    Shape::Of {
-        rows: rows as usize,
-        columns: columns as usize,
-    }
-}
-
 // A matrix of an account, its cells to the place `start` on.
 pub fn matrix_to(text: &[u8], at: usize, cells: &mut [f64], start: usize) -> Given
-    ensures { λ r. ⌜ r .shape ≡ shapeRead (tokenAt (now (text .entry)) at 0) (tokenAt (now (text .entry)) at 1) (tokenAt (now (text .entry)) at 2) ⌝ }
+    ensures { λ r. ⌜ r .shape ≡ shapeOf (isSet (tokenAt (now (text .entry)) at 0)) (tokenAt (now (text .entry)) at 1) (tokenAt (now (text .entry)) at 2) ⌝ }
     ensures { λ r. ⌜ r .len ≡ tokenAt (now (text .entry)) at 3 ⌝ }
     ensures { λ r. ⌜ r .at ≡ matrixPlace (now (text .entry)) at (length (now (cells .entry)) - start) ⌝ }
 {
@@ -192,7 +180,11 @@ pub fn matrix_to(text: &[u8], at: usize, cells: &mut [f64], start: usize) -> Giv
     let rows = next(text, given.at);
     let columns = next(text, rows.at);
     let len = doubles_to(text, columns.at, cells, start);
-    let shape = shape(given.value, rows.value, columns.value);
+    let shape = lent::shape_if(
+        given.value != 0,
+        rows.value as usize,
+        columns.value as usize,
+    );
     Given {
         shape,
         len: len.value as usize,
@@ -411,7 +403,7 @@ pub fn columns_of(answer: Answer) -> usize
 }
 
 fn refusal_of(answer: Answer) -> u8
-    ensures { λ r. ⌜ r ≡ answeredNumber answer ⌝ }
+    ensures { λ r. ⌜ r ≡ answerTells answer .number ⌝ }
 {
     match answer {
         Answer::Matrix {

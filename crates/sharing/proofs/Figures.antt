@@ -24,9 +24,11 @@ use Rattle.ordering.specs.Nearest.{wholeOf, place, quantile, noPart}
 use Rattle.tails.specs.Tail.{gain, rowReturn, tailSum, tailCount, mean, shortfall, wealth, higher, peak, fall, drawdown, conditionalDrawdown, shortfallOf, drawdownOf}
 use Rattle.metrics.specs.declared.Metric.{Metric}
 use Rattle.metrics.specs.declared.Metric.the-variants.{MinimumVariance, MinimumStandardDeviation, SharpeRatio, EqualWeighting, ExpectedShortfall}
-use Rattle.metrics.specs.Split.{Inputs, inputs, bounded, splitBy, byRisk, fair, byRatio, scored, splitOf}
+use Rattle.metrics.specs.Split.{Inputs, bounded, splitBy, byRisk, fair, byRatio, scored, splitOf}
+use Rattle.metrics.specs.Inner.{inputs}
 use Rattle.sharing.specs.Allot.{spreadOf, equalOf, dealTo, variedOf, insideOf, allotted, downShares}
-use Rattle.sharing.specs.Down.{isSharpe, isTailRisk, DownCall, downCall, downSizeLines, downRuleLines, downGiven, downTable, downOutcome, downAnswer, downWeights}
+use Rattle.sharing.specs.Down.{isSharpe, isTailRisk, DownCall, downSizeLines, downRuleLines, downGiven, downTable, downOutcome, downAnswer, downWeights}
+use Rattle.sharing.specs.Inner.{downCall}
 
 abbrev all : List Bool → Bool
 all [] = true
@@ -115,6 +117,8 @@ figure-list =
     ∷ same (shared (downCall MinimumVariance (expecting []) false 0 (floats (minus ∷ [])) 1 1 [] 1 1) 1) (0 ∷ 1 ∷ 1 ∷ one ∷ [])
     ∷ same (shared (pair EqualWeighting [] false minus one 1) 2) (0 ∷ 1 ∷ 2 ∷ half ∷ half ∷ [])
     ∷ same (shared (pair MinimumVariance [] false minus one 1) 2) (1 ∷ p0 ∷ p0 ∷ [])
+    -- a cut cluster's parts go by its leaves, here B and then A, and not by the assets' numbers
+    ∷ same (shared (downCall MinimumVariance (expecting []) false 0 (floats (one ∷ p0 ∷ p0 ∷ three ∷ [])) 2 2 (1 ∷ 0 ∷ []) 2 1) 2) (0 ∷ 1 ∷ 2 ∷ most ∷ quarter ∷ [])
     -- the factors
     ∷ same (shared (pair MinimumVariance [] false one three 2) 2) (0 ∷ 1 ∷ 2 ∷ most ∷ quarter ∷ [])
     ∷ same (shared (pair MinimumStandardDeviation [] false one nine 2) 2) (0 ∷ 1 ∷ 2 ∷ most ∷ quarter ∷ [])

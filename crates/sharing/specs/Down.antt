@@ -155,7 +155,3 @@ unfoldable pub downWeights : DownCall → ℕ → ℕ → List Float
 unfolding downOutcome
 downWeights q room scratch =
     laid pz (downOutcome q room scratch) room (weightsIn (downShares (q .metric) (q .inputs) (q .covariance) (q .rows) (q .assets) (q .clusters)))
-
-abbrev pub downCall : Metric → Inputs → Bool → ℕ → List Float → ℕ → ℕ → List ℕ → ℕ → ℕ → DownCall
-downCall metric x given w cov r c rows n k =
-    record { metric = metric; inputs = x; expected-given = given; return-columns = w; covariance = cov; covariance-rows = r; covariance-columns = c; rows = rows; assets = n; clusters = k }

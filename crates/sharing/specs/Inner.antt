@@ -1,6 +1,7 @@
 -- What the private functions ask of one another and promise: may be skipped. Definitions only.
 use Prim.Native.Nat.{ℕ, _≤_, _<_}
 use mathlib.Core.Path.{_≡_}
+use mathlib.Core.Bool.{Bool}
 use mathlib.Core.List.{List}
 use lib.ListN.{length, take}
 use lib.Ieee.{Float}
@@ -12,6 +13,7 @@ use Rattle.tree.specs.Inner.{OnTree}
 use Rattle.metrics.specs.declared.Metric.{Metric}
 use Rattle.metrics.specs.Split.{Inputs}
 use Rattle.metrics.specs.Inner.{Fed}
+use Rattle.sharing.specs.Down.{DownCall}
 
 -- a node of a tree of at most 64 assets
 pub record Below (rows : List ℕ) (n v : ℕ) : Type 0 where
@@ -40,3 +42,8 @@ pub record Down (metric : Metric) (x : Inputs) (rows : List ℕ) (n k v : ℕ) (
   pub cut : k ≤ n
   pub each : n ≤ length ws
   pub fed : Fed metric x n
+
+-- a call by its parts
+abbrev pub downCall : Metric → Inputs → Bool → ℕ → List Float → ℕ → ℕ → List ℕ → ℕ → ℕ → DownCall
+downCall metric x given w cov r c rows n k =
+    record { metric = metric; inputs = x; expected-given = given; return-columns = w; covariance = cov; covariance-rows = r; covariance-columns = c; rows = rows; assets = n; clusters = k }

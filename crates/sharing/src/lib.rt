@@ -21,10 +21,10 @@ ghost use Rattle.lent.specs.declared.Answer.the-variants as answer;
 ghost use Rattle.tree.specs.Tree.{leavesOf};
 ghost use Rattle.lent.specs.Grid.{zeros};
 ghost use Rattle.clusters.specs.Inner.{told};
-ghost use Rattle.metrics.specs.Split.{inputs, splitOf};
-ghost use Rattle.metrics.specs.Inner.{Fed};
+ghost use Rattle.metrics.specs.Split.{splitOf};
+ghost use Rattle.metrics.specs.Inner.{inputs, Fed};
 ghost use Rattle.sharing.specs.Allot.{spreadOf, equalOf, dealTo, variedOf, insideOf, allottedAt};
-ghost use Rattle.sharing.specs.Down.{isTailRisk, downSizeLines, downRuleLines, downAnswer, downWeights, downCall};
+ghost use Rattle.sharing.specs.Down.{isTailRisk, downSizeLines, downRuleLines, downAnswer, downWeights};
 ghost use Rattle.sharing.specs.Inner.{Below, Front, Dealt, Blank, Down};
 
 // The numbers that stay the same on the whole way down.
@@ -398,12 +398,32 @@ pub fn allocate_down_tree(
     scratch: &mut [f64],
 ) -> Answer
     ensures { λ r. ⌜ r ≡ downAnswer
-        (downCall metric (inputs (now (expected .entry)) (now (returns .entry)) «return_rows» confidence) «expected_given» «return_columns»
-        (now (covariance .entry)) «covariance_rows» «covariance_columns» (now (rows .entry)) n clusters)
+        (record {
+          metric = metric;
+          inputs = record { expected = now (expected .entry); returns = now (returns .entry); return-rows = «return_rows»; confidence = confidence };
+          expected-given = «expected_given»;
+          return-columns = «return_columns»;
+          covariance = now (covariance .entry);
+          covariance-rows = «covariance_rows»;
+          covariance-columns = «covariance_columns»;
+          rows = now (rows .entry);
+          assets = n;
+          clusters = clusters;
+        })
         (length (now (out .entry))) (length (now (scratch .entry))) ⌝ }
     ensures { λ _. ⌜ now (out .exit) ≡ downWeights
-        (downCall metric (inputs (now (expected .entry)) (now (returns .entry)) «return_rows» confidence) «expected_given» «return_columns»
-        (now (covariance .entry)) «covariance_rows» «covariance_columns» (now (rows .entry)) n clusters)
+        (record {
+          metric = metric;
+          inputs = record { expected = now (expected .entry); returns = now (returns .entry); return-rows = «return_rows»; confidence = confidence };
+          expected-given = «expected_given»;
+          return-columns = «return_columns»;
+          covariance = now (covariance .entry);
+          covariance-rows = «covariance_rows»;
+          covariance-columns = «covariance_columns»;
+          rows = now (rows .entry);
+          assets = n;
+          clusters = clusters;
+        })
         (length (now (out .entry))) (length (now (scratch .entry))) ⌝ }
     ensures { λ _. ⌜ now (scratch .exit) ≡ zeros (length (now (scratch .entry))) ⌝ }
 {

@@ -8,7 +8,8 @@ ghost use Prim.Native.Nat.{_+_, _*_, _<_, _≤_};
 ghost use lib.ListN.{length, set};
 ghost use Rattle.arithmetic.specs.Root.{root};
 ghost use Rattle.lent.specs.Grid.{cell, tab, grid, over};
-ghost use Rattle.stats.specs.Covariance.{meanOf, spread, covarianceCell, covarianceOutcome, covarianceAnswer, covariances, shrunkCell, shrinkAnswer, shrunk, correlationCell, anyLow, correlationOutcome, correlationAnswer, correlations};
+ghost use Rattle.stats.specs.Covariance.{meanOf, spread, covarianceCell, covarianceOutcome, covarianceAnswer, covariances};
+ghost use Rattle.stats.specs.Covariance.{shrunkCell, shrinkAnswer, shrunk, correlationCell, anyLow, correlationOutcome, correlationAnswer, correlations};
 ghost use Rattle.stats.specs.Expected.{meanReturn, exponentialReturn, expectedOutcome, expectedAnswer, meanReturns, exponentialReturns};
 ghost use Rattle.stats.specs.Inner.{Whole, Kept};
 

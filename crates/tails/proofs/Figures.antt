@@ -6,7 +6,8 @@ use mathlib.Core.Bool.{Bool, true, false, _&&_}
 use lib.Dec.{eqb}
 use lib.Ieee.{Float, nan, binary64, ofBits, toBits, isNan, lt, eq, le, mul, add, sub, div, neg, ofInt}
 use Rattle.tails.specs.Tail.{gain, rowReturn, tailSum, tailCount, mean, shortfall, wealth, higher, peak, fall, drawdown, conditionalDrawdown, shortfallOf, drawdownOf}
-use Rattle.tails.specs.Measures.{MeasureCall, measureCall, measureSizeLines, measureShapeLines, lowLines, measureOutcome, shortfallAnswer, drawdownAnswer}
+use Rattle.tails.specs.Measures.{MeasureCall, measureSizeLines, measureShapeLines, lowLines, measureOutcome, shortfallAnswer, drawdownAnswer}
+use Rattle.tails.specs.Inner.{measureCall}
 use Rattle.refusal.specs.Refusal.{numberOf}
 use Rattle.refusal.specs.Table.{first}
 use Rattle.lent.specs.Grid.{tab, sumTo, anyTo}

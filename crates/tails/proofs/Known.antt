@@ -16,7 +16,8 @@ use Rattle.clusters.specs.Clusters.{sizeTable, riskTable, notSquare, varianceOu
 use Rattle.clusters.specs.declared.Risk.the-variants as risk
 use Rattle.clusters.proofs.Sharing.{variance-outcome}
 use Rattle.tails.specs.Tail.{shortfallOf, drawdownOf}
-use Rattle.tails.specs.Measures.{measureCall, measureSizeLines, measureShapeLines, tailLines, lowLines, measureOutcome, shortfallAnswer, drawdownAnswer}
+use Rattle.tails.specs.Measures.{measureSizeLines, measureShapeLines, tailLines, lowLines, measureOutcome, shortfallAnswer, drawdownAnswer}
+use Rattle.tails.specs.Inner.{measureCall}
 
 no-other : (b c : Bool) → c ≡ true → (b && not c) ≡ false
 no-other true c e = rw e

@@ -6,6 +6,7 @@ use lib.ListN.{length, take}
 use lib.Ieee.{Float}
 use Rattle.ordering.specs.Inner.{Part}
 use Rattle.clusters.specs.Clusters.{nth}
+use Rattle.tails.specs.Measures.{MeasureCall}
 
 -- rows of n returns, assets among the n, and a weight for each
 pub record HeldRows (returns : List Float) (rows n : ℕ) (assets : List ℕ) (w : List Float) : Type 0 where
@@ -20,3 +21,8 @@ pub record TailReady (returns : List Float) (rows n : ℕ) (assets : List ℕ) (
   pub listed : length assets ≤ length w
   pub part : Part q
   pub roomy : rows + 1 ≤ room
+
+-- a call by its parts
+abbrev pub measureCall : List Float → ℕ → ℕ → List Float → ℕ → ℕ → List ℕ → Float → ℕ → MeasureCall
+measureCall xs h c cov rows w assets q room =
+    record { returns = xs; return-rows = h; return-columns = c; covariance = cov; covariance-rows = rows; covariance-columns = w; assets = assets; confidence = q; room = room }

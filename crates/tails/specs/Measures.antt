@@ -27,10 +27,6 @@ pub record MeasureCall : Type 0 where
   pub confidence : Float
   pub room : ℕ
 
-abbrev pub measureCall : List Float → ℕ → ℕ → List Float → ℕ → ℕ → List ℕ → Float → ℕ → MeasureCall
-measureCall xs h c cov rows w assets q room =
-    record { returns = xs; return-rows = h; return-columns = c; covariance = cov; covariance-rows = rows; covariance-columns = w; assets = assets; confidence = q; room = room }
-
 -- "Always 9, 10, 11 first", of both matrices
 -- 11: a buffer for the portfolio's series: its rows and its start
 unfoldable pub measureSizeLines : MeasureCall → List Line

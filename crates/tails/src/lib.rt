@@ -17,8 +17,8 @@ ghost use Rattle.clusters.specs.Clusters.{shares, riskOf};
 ghost use Rattle.ordering.specs.Nearest.{quantile};
 ghost use Rattle.ordering.specs.Inner.{Part};
 ghost use Rattle.tails.specs.Tail.{rowReturn, tailSum, tailCount, mean, shortfall, higher, fall, drawdown, conditionalDrawdown};
-ghost use Rattle.tails.specs.Inner.{HeldRows, TailReady};
-ghost use Rattle.tails.specs.Measures.{measureCall, measureSizeLines, measureShapeLines, tailLines, measureOutcome, shortfallAnswer, drawdownAnswer};
+ghost use Rattle.tails.specs.Inner.{HeldRows, TailReady, measureCall};
+ghost use Rattle.tails.specs.Measures.{measureSizeLines, measureShapeLines, tailLines, measureOutcome, shortfallAnswer, drawdownAnswer};
 
 // A sum and the number of its terms.
 struct Tail {
@@ -460,8 +460,17 @@ pub fn cluster_expected_shortfall(
     series: &mut [f64],
 ) -> Risk
     ensures { λ r. ⌜ r ≡ shortfallAnswer
-        (measureCall (now (returns .entry)) «return_rows» «return_columns»
-        (now (covariance .entry)) rows columns (now (assets .entry)) confidence (length (now (series .entry)))) ⌝ }
+        (record {
+          returns = now (returns .entry);
+          return-rows = «return_rows»;
+          return-columns = «return_columns»;
+          covariance = now (covariance .entry);
+          covariance-rows = rows;
+          covariance-columns = columns;
+          assets = now (assets .entry);
+          confidence = confidence;
+          room = length (now (series .entry));
+        }) ⌝ }
     ensures { λ _. ⌜ now (series .exit) ≡ zeros (length (now (series .entry))) ⌝ }
 {
     let mut w = [0.0; 64];
@@ -503,8 +512,17 @@ pub fn cluster_conditional_drawdown(
     series: &mut [f64],
 ) -> Risk
     ensures { λ r. ⌜ r ≡ drawdownAnswer
-        (measureCall (now (returns .entry)) «return_rows» «return_columns»
-        (now (covariance .entry)) rows columns (now (assets .entry)) confidence (length (now (series .entry)))) ⌝ }
+        (record {
+          returns = now (returns .entry);
+          return-rows = «return_rows»;
+          return-columns = «return_columns»;
+          covariance = now (covariance .entry);
+          covariance-rows = rows;
+          covariance-columns = columns;
+          assets = now (assets .entry);
+          confidence = confidence;
+          room = length (now (series .entry));
+        }) ⌝ }
     ensures { λ _. ⌜ now (series .exit) ≡ zeros (length (now (series .entry))) ⌝ }
 {
     let mut w = [0.0; 64];

@@ -1,4 +1,8 @@
 -- `metrics::by_ratio` meets its contract. Assumes nothing.
+use mathlib.Core.Path.{_≡_}
+use mathlib.Core.Bool.{_&&_}
+use lib.Ieee.{le}
+use Rattle.arithmetic.specs.Constants.{pz}
 use Rattle.metrics.specs.Split.{fair, byRatio}
 use borrow.Author.Needs.{needs}
 use Rattle.metrics.proofs.by_ratio.Statement.{statement}
@@ -15,7 +19,10 @@ split-by-requires c κs = search needs
 
 returns : tie.Need-returns
 unfolding byRatio fair
-returns c = rw (← c .before .before .before .both .ensures, ← c .before .before .both2 .ensures, c .before .if1 .taken) (c .split-by .ensures)
+returns c =
+    let a = c .before .before .before .before .args in
+    let ratios : c .before .before .before .both .result ≡ (le pz (a .s) && le pz (a .t)) = c .before .before .before .both .ensures in
+    rw (← ratios, ← c .before .before .both2 .ensures, c .before .if1 .taken) (c .split-by .ensures)
 
 by-risk-requires : tie.Need-by-risk-requires
 by-risk-requires c κs = search needs

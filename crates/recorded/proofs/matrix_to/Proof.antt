@@ -16,20 +16,20 @@ next-requires-3 c κs = search needs
 doubles-to-requires : tie.Need-doubles-to-requires
 doubles-to-requires c κs = search needs
 
-shape-requires : tie.Need-shape-requires
-shape-requires c κs = search needs
+shape-if-requires : tie.Need-shape-if-requires
+shape-if-requires c κs = search needs
 
 same-length : tie.Need-same-length
-same-length c = c .before .before .before .doubles-to .kept .1 .1 .0
+same-length c = c .before .before .before .before .doubles-to .kept .1 .1 .0
 
 returns : tie.Need-returns
-returns c = let k = c .before .before .before .before .before in
+returns c = let k = c .before .before .before .before .before .before in
     let g = k .before .before .next .ensures in
     let r = k .before .next2 .ensures in
     let w = k .next3 .ensures in
-    let d = c .before .before .before .doubles-to .ensures in
+    let d = c .before .before .before .before .doubles-to .ensures in
     let p = place-three _ _ _ _ _ (g .1) (r .1) (w .1) in (
-      shape-read _ _ _ _ _ _ _ (c .shape .ensures) (token-first _ _ _ (g .0)) (token-second _ _ _ _ (g .1) (r .0)) (token-third _ _ _ _ _ (g .1) (r .1) (w .0)),
+      shape-read _ _ _ _ _ _ _ (c .shape-if .ensures) (token-first _ _ _ (g .0)) (token-second _ _ _ _ (g .1) (r .0)) (token-third _ _ _ _ _ (g .1) (r .1) (w .0)),
       (token-fourth _ _ _ _ p (d .0), matrix-place _ _ _ _ _ p (d .1)),
     )
 
@@ -41,6 +41,6 @@ matrix-to-spec =
     next-requires-2
     next-requires-3
     doubles-to-requires
-    shape-requires
+    shape-if-requires
     same-length
     returns)

@@ -1,5 +1,4 @@
 -- `recorded::refusal_of` meets its contract. Assumes nothing.
-use Rattle.recorded.specs.Told.{answeredNumber}
 use borrow.Author.Needs.{needs}
 use Rattle.recorded.proofs.refusal_of.Statement.{statement}
 use Rattle.recorded.proofs.refusal_of.Tie as tie
@@ -14,11 +13,9 @@ number-requires : tie.Need-number-requires
 number-requires c κs = search needs
 
 returns : tie.Need-returns
-unfolding answeredNumber
 returns c = search needs
 
 returns-2 : tie.Need-returns-2
-unfolding answeredNumber
 returns-2 c = search needs
 
 pub refusal-of-spec : {M : Type 1} → statement M

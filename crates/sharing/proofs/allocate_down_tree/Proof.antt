@@ -5,8 +5,9 @@ use borrow.Author.Tests.{not-true, not-false}
 use lib.ListN.{length}
 use lib.Seq.{length-take-le}
 use Rattle.refusal.specs.Table.{first}
-use Rattle.metrics.specs.Split.{inputs}
-use Rattle.sharing.specs.Down.{DownCall, downCall, downGiven}
+use Rattle.metrics.specs.Inner.{inputs}
+use Rattle.sharing.specs.Down.{DownCall, downGiven}
+use Rattle.sharing.specs.Inner.{downCall}
 use Rattle.sharing.proofs.Judged.{both-said, said-right, down-refused, down-none, down-some, root, front-fits, front-length, down-start, down-shared, part-length, whole-length, cleared-blank}
 use borrow.Author.Needs.{needs}
 use Rattle.sharing.proofs.allocate_down_tree.Statement.{statement}

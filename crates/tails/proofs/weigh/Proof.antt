@@ -1,7 +1,7 @@
 -- `tails::weigh` meets its contract. Assumes nothing.
 use mathlib.Core.Path.{sym, _∙_}
 use Rattle.refusal.proofs.Tables.{done-refused}
-use Rattle.tails.specs.Measures.{measureCall}
+use Rattle.tails.specs.Inner.{measureCall}
 use Rattle.tails.proofs.Outcomes.{Judged, stays-refused, weighed}
 use borrow.Author.Needs.{needs}
 use Rattle.tails.proofs.weigh.Statement.{statement}
