@@ -1,17 +1,17 @@
 -- The lines of a call's tables, one table after another. Assumes nothing.
-use Prim.Native.Nat.{ℕ, _-_, _*_}
+use Prim.Native.Nat.{ℕ}
 use mathlib.Core.Path.{_≡_, refl, sym, ap, _∙_}
 use mathlib.Core.Bool.{Bool, true, false}
 use mathlib.Core.List.{[], _∷_, _++_}
-use lib.Dec.{ltb}
 use Rattle.refusal.specs.Table.{first, orElse, andThen}
 use Rattle.refusal.specs.declared.Refusal.{Refusal}
-use Rattle.refusal.specs.declared.Refusal.the-variants.{ShortBuffer}
+use Rattle.refusal.specs.declared.Refusal.the-variants.{DimensionMismatch}
 use Rattle.refusal.specs.declared.Outcome.{Outcome}
 use Rattle.refusal.specs.declared.Outcome.the-variants.{Done}
 use Rattle.refusal.proofs.Tables.{table, table-end, first-append}
-use Rattle.lent.specs.Lent.{least-scratch}
-use Rattle.admission.specs.Admission.{HierarchyCall, HierarchyRoom, hierarchyRoomLines, hierarchySizeLines, hierarchyShapeLines, expectedLines, ruleLines, hierarchyJudgeTable}
+use Rattle.rooms.specs.Rooms.{Room, roomLines, squareLines}
+use Rattle.sharing.specs.Down.{otherRows}
+use Rattle.admission.specs.Admission.{HierarchyCall, hierarchySizeLines, hierarchyShapeLines, expectedLines, ruleLines, hierarchyJudgeTable}
 
 -- two lines before the rest
 pub lines-then : (a b : Bool) (x y : Refusal) (rest : Outcome) → orElse a x (orElse b y rest) ≡ andThen (first ((a, x) ∷ (b, y) ∷ [])) rest
@@ -21,7 +21,7 @@ lines-then false true x y rest = refl
 lines-then false false x y rest = refl
 
 -- the four tables of a call
-pub judge-said : (q : HierarchyCall) (len rows w : ℕ) (room : HierarchyRoom) (sized rooms shape ruled later rest r : Outcome) → sized ≡ first (hierarchySizeLines q len rows w) → rooms ≡ first (hierarchyRoomLines w room)
+pub judge-said : (q : HierarchyCall) (len rows w : ℕ) (room : Room) (sized rooms shape ruled later rest r : Outcome) → sized ≡ first (hierarchySizeLines q len rows w) → rooms ≡ first (roomLines w room)
     → shape ≡ first (hierarchyShapeLines q rows w) → ruled ≡ first (expectedLines q w ++ ruleLines (q .rule) w) → later ≡ andThen shape ruled → rest ≡ andThen rooms later → r ≡ andThen sized rest
     → r ≡ first (hierarchyJudgeTable q len rows w room)
 unfolding hierarchyJudgeTable
@@ -30,9 +30,12 @@ judge-said q len rows w room sized rooms shape ruled later rest r a b c d e f g 
     (sym
     (first-append (hierarchySizeLines q len rows w) _
     ∙ ap (andThen (first (hierarchySizeLines q len rows w)))
-    (first-append (hierarchyRoomLines w room) _ ∙ ap (andThen (first (hierarchyRoomLines w room))) (first-append (hierarchyShapeLines q rows w) (expectedLines q w ++ ruleLines (q .rule) w)))))
+    (first-append (roomLines w room) _ ∙ ap (andThen (first (roomLines w room))) (first-append (hierarchyShapeLines q rows w) (expectedLines q w ++ ruleLines (q .rule) w)))))
 
-pub rooms-said : (n : ℕ) (room : HierarchyRoom) (few : Bool) (o₁ o₂ o₃ r : Outcome) → o₁ ≡ orElse (ltb (room .scratch) least-scratch) ShortBuffer Done → o₂ ≡ orElse (ltb (room .weights) n) ShortBuffer o₁
-    → o₃ ≡ orElse (ltb (room .order) n) ShortBuffer o₂ → few ≡ ltb (room .rows) (2 * (n - 1)) → r ≡ orElse few ShortBuffer o₃ → r ≡ first (hierarchyRoomLines n room)
-unfolding hierarchyRoomLines
-rooms-said n room few o₁ o₂ o₃ r a b c d e = simp (table, table-end) (cc)
+-- return rows of another width, behind the covariance's own lines
+pub shape-said : (q : HierarchyCall) (rows w : ℕ) (square o r : Outcome) → square ≡ first (squareLines rows w)
+    → o ≡ orElse (otherRows (q .rule .metric) (q .rule .inputs) (q .return-columns) w) DimensionMismatch Done → r ≡ andThen square o → r ≡ first (hierarchyShapeLines q rows w)
+unfolding hierarchyShapeLines
+shape-said q rows w square o r a b c =
+    let other = otherRows (q .rule .metric) (q .rule .inputs) (q .return-columns) w in
+    c ∙ rw (a, b) (sym (first-append (squareLines rows w) ((other, DimensionMismatch) ∷ []) ∙ ap (andThen (first (squareLines rows w))) (table other DimensionMismatch [] ∙ ap (orElse other DimensionMismatch) table-end)))

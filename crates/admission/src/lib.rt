@@ -1,4 +1,4 @@
-// What a call of the allocation on a covariance must have, and the zeros of its buffers.
+// What a call of the allocation on a covariance must have.
 
 use refusal::Outcome;
 use refusal::Refusal;
@@ -7,43 +7,11 @@ ghost use mathlib.Core.Path.{_≡_};
 ghost use mathlib.Core.Bool.{Bool};
 ghost use mathlib.Core.List.{List, _++_};
 ghost use Prim.Native.Nat.{ℕ};
-ghost use lib.ListN.{length};
 ghost use lib.Ieee.{Float};
 ghost use Rattle.refusal.specs.Table.{first, andThen};
 ghost use Rattle.sharing.specs.Down.{metricTailLines};
 ghost use Rattle.metrics.specs.declared.Metric.{Metric};
-ghost use Rattle.admission.specs.Admission.{hierarchyRoomLines, hierarchySizeLines, hierarchyShapeLines, expectedLines, ruleLines, hierarchyJudgeTable, HierarchyCleared};
-
-// Every entry of every lent buffer is zero.
-pub fn clear_all(rows: &mut [usize], order: &mut [usize], weights: &mut [f64], scratch: &mut [f64])
-    ensures { λ _. ⌜ HierarchyCleared
-        (record {
-          rows = length (now (rows .entry));
-          order = length (now (order .entry));
-          weights = length (now (weights .entry));
-          scratch = length (now (scratch .entry));
-        })
-        (now (rows .exit)) (now (order .exit)) (now (weights .exit)) (now (scratch .exit)) ⌝ }
-{
-    lent::clear_numbers(rows);
-    lent::clear_numbers(order);
-    lent::clear(weights);
-    lent::clear(scratch); // and what was worked out in it
-}
-
-// What the sizes of the lent buffers refuse.
-pub fn judge_rooms(n: usize, rows: usize, order: usize, weights: usize, scratch: usize) -> Outcome
-    ensures { λ r. ⌜ r ≡ first (hierarchyRoomLines n (record { rows = rows; order = order; weights = weights; scratch = scratch })) ⌝ }
-{
-    let o = refusal::refuse(
-        scratch < lent::LEAST_SCRATCH,
-        Refusal::ShortBuffer,
-        Outcome::Done,
-    );
-    let o = refusal::refuse(weights < n, Refusal::ShortBuffer, o);
-    let o = refusal::refuse(order < n, Refusal::ShortBuffer, o);
-    refusal::refuse(lent::lacks_rows(rows, n), Refusal::ShortBuffer, o)
-}
+ghost use Rattle.admission.specs.Admission.{hierarchySizeLines, hierarchyShapeLines, expectedLines, ruleLines, hierarchyJudgeTable};
 
 // The sizes of the covariance and of the rows of returns, whatever else the rule says.
 fn judge_sizes(
@@ -94,8 +62,7 @@ fn judge_shape(
         refusal::both(0 < return_rows, return_columns != columns),
     );
     let o = refusal::refuse(other, Refusal::DimensionMismatch, Outcome::Done);
-    let o = refusal::refuse(rows_in != columns, Refusal::DimensionMismatch, o);
-    refusal::refuse(columns == 0, Refusal::NoData, o)
+    refusal::and_then(rooms::judge_square(rows_in, columns), o)
 }
 
 // The rows and the confidence that a tail-risk metric asks for, before the rest.
@@ -185,7 +152,7 @@ pub fn judge(
         (record { rows = rows; order = order; weights = weights; scratch = scratch })) ⌝ }
 {
     let sized = judge_sizes(len, rows_in, columns, returns, return_rows, return_columns);
-    let rooms = judge_rooms(columns, rows, order, weights, scratch);
+    let rooms = rooms::judge_rooms(columns, rows, order, weights, scratch);
     let shape = judge_shape(metric, return_rows, return_columns, rows_in, columns);
     let ruled = judge_rule(
         metric,

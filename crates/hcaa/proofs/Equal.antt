@@ -25,7 +25,7 @@ use Rattle.sharing.specs.Down.{metricTailLines}
 use Rattle.sharing.proofs.Judged.{neither, shares-length}
 use Rattle.equal.specs.Equal.{EqualShares}
 use Rattle.equal.proofs.Sharing.{equal-shared}
-use Rattle.hierarchy.specs.Hierarchy.{HierarchyRoom, hcaaRows, hcaaShares, hierarchyRoomLines, shareLines, HierarchyLaid}
+use Rattle.hierarchy.specs.Hierarchy.{Room, hcaaRows, hcaaShares, roomLines, shareLines, HierarchyLaid}
 use Rattle.hcaa.specs.Hcaa.{HcaaJob, usedMetric, usedInputs, hcaaCovariance, usedRule, clusterCount, nameLines, matrixRules, sharpeLines, hcaaTable, hcaaOutcome, HcaaAllocated}
 
 -- what stands at the front of a buffer after an accepted job
@@ -33,7 +33,7 @@ front : {A : Type 0} (z : A) (o : Outcome) (room n : ℕ) (cells out : List A) �
 unfolding laid
 front z o room n cells out e h g = rw (g, e, ← h) (take-append-seam cells (replicate (room - length cells) z))
 
-module _ (j : HcaaJob) (room : HierarchyRoom) (o : hcaaOutcome j room ≡ Done) where
+module _ (j : HcaaJob) (room : Room) (o : hcaaOutcome j room ≡ Done) where
   -- what the lines find right
   record Right : Type 0 where
     few : j .assets ≤ 64
@@ -46,7 +46,7 @@ module _ (j : HcaaJob) (room : HierarchyRoom) (o : hcaaOutcome j room ≡ Done) 
   unfolding hcaaOutcome hcaaTable matrixLines nameLines shareLines metricTailLines usedRule
   right =
       let a = parts-done (matrixLines (j .assets) (j .prices-shape) (length (j .prices)) (j .returns-shape) (length (j .returns)) (j .covariance-shape) (length (j .covariance))) _ o in
-      let b = parts-done (hierarchyRoomLines (j .assets) room) _ (a .1) in
+      let b = parts-done (roomLines (j .assets) room) _ (a .1) in
       let c = parts-done (nameLines j) _ (b .1) in
       let d = parts-done (matrixRules j) _ (c .1) in
       let e = parts-done (sharpeLines j) _ (d .1) in
@@ -87,7 +87,7 @@ module _ (j : HcaaJob) (room : HierarchyRoom) (o : hcaaOutcome j room ≡ Done) 
       (ap (λ (x : Metric). downShares x (usedInputs j) (hcaaCovariance j) rows-made (j .assets) (clusterCount (j .clusters) (j .assets))) (sym m) ∙ shares-length _ _ _ _ _ _ (right .shared) .0)
 
 -- of the buffers that an accepted job leaves, whoever says the outcome
-pub equal-laid : (j : HcaaJob) (room : HierarchyRoom) (o : Outcome) (rows order : List ℕ) (weights scratch : List Float) → o ≡ Done → hcaaOutcome j room ≡ Done → usedMetric j ≡ EqualWeighting
+pub equal-laid : (j : HcaaJob) (room : Room) (o : Outcome) (rows order : List ℕ) (weights scratch : List Float) → o ≡ Done → hcaaOutcome j room ≡ Done → usedMetric j ≡ EqualWeighting
     → HierarchyLaid o (usedRule j) (j .distance) (j .linkage) (hcaaCovariance j) (j .assets) room rows order weights scratch
     → EqualShares (j .assets) (clusterCount (j .clusters) (j .assets)) (take (2 * (j .assets - 1)) rows) (take (j .assets) weights)
 equal-laid j room o rows order weights scratch e h m z =
@@ -95,7 +95,7 @@ equal-laid j room o rows order weights scratch e h m z =
     let y = front pz o (room .weights) (j .assets) _ weights e (weights-size j room h) (z .weights-are) in
     rw (x, y) (equal-job j room h m)
 
-pub allocated : (j : HcaaJob) (room : HierarchyRoom) (r : Outcome) (rows order : List ℕ) (weights scratch : List Float) → r ≡ hcaaOutcome j room
+pub allocated : (j : HcaaJob) (room : Room) (r : Outcome) (rows order : List ℕ) (weights scratch : List Float) → r ≡ hcaaOutcome j room
     → HierarchyLaid (hcaaOutcome j room) (usedRule j) (j .distance) (j .linkage) (hcaaCovariance j) (j .assets) room rows order weights scratch → HcaaAllocated j room r rows order weights scratch
 allocated j room r rows order weights scratch a z = record {
   answer = a;

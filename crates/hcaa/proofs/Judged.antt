@@ -34,13 +34,13 @@ use Rattle.metrics.specs.declared.Metric.{Metric}
 use Rattle.metrics.specs.declared.NamedMetric.{NamedMetric}
 use Rattle.sharing.specs.Names.{metricNamed}
 use Rattle.sharing.specs.Down.{isSharpe, isTailRisk, otherRows}
-use Rattle.hierarchy.specs.Hierarchy.{HierarchyCall, HierarchyRoom, hierarchyRoomLines, hierarchySizeLines, hierarchyShapeLines, expectedLines, ruleLines, hierarchyJudgeTable, hcaaRiskLines, shareLines, hierarchyTable, hierarchyOutcome, HierarchyAnswered, HierarchyCleared}
+use Rattle.hierarchy.specs.Hierarchy.{HierarchyCall, Room, roomLines, hierarchySizeLines, hierarchyShapeLines, expectedLines, ruleLines, hierarchyJudgeTable, hcaaRiskLines, shareLines, hierarchyTable, hierarchyOutcome, HierarchyAnswered, Cleared, squareLines}
 use Rattle.hierarchy.proofs.Answers.{laid-cleared}
 use Rattle.hcaa.specs.declared.Clusters.{Clusters}
 use Rattle.hcaa.specs.declared.Wanted.{Wanted}
 use Rattle.hcaa.specs.declared.Wanted.the-variants.{Nothing, Given, Mean, Exponential, Unknown}
-use Rattle.hcaa.specs.Hcaa.{HcaaJob, hcaaJob, hcaaReturnRows, returnColumns, hcaaReturnCells, pricesRefused, rowsMade, columnsMade, cellsMade, hcaaCovarianceBy, hcaaCovariance, metricOf, usedMetric, isMean, isExponential, expectedOf, usedExpected, clusterCount, usedInputs, usedRule, namesJudged, nameLines, rowsJudged, matrixRules, sharpeJudged, sharpeLines, hcaaTable, hcaaOutcome, HcaaAllocated}
-use Rattle.hcaa.specs.Inner.{wantedBy, hcaaJudgeTable, sizesOf, sourceOutcome, Sources, Gathered, heightOf, restOutcome, Coverable, Hopeful, hopesOf, hopedFor}
+use Rattle.hcaa.specs.Hcaa.{HcaaJob, hcaaReturnRows, returnColumns, hcaaReturnCells, pricesRefused, rowsMade, columnsMade, cellsMade, hcaaCovarianceBy, hcaaCovariance, metricOf, usedMetric, isMean, isExponential, expectedOf, usedExpected, clusterCount, usedInputs, usedRule, namesJudged, nameLines, rowsJudged, matrixRules, sharpeJudged, sharpeLines, hcaaTable, hcaaOutcome, HcaaAllocated}
+use Rattle.hcaa.specs.Inner.{hcaaJob, wantedBy, hcaaJudgeTable, sizesOf, sourceOutcome, Sources, Gathered, heightOf, restOutcome, Coverable, Hopeful, hopesOf, hopedFor}
 use Rattle.hcaa.proofs.Stages.{wantJudged, want-lines}
 use Rattle.hcaa.proofs.Equal.{allocated}
 
@@ -51,17 +51,17 @@ unfolding sizesOf
 sizes-of Absent len f = table-end
 sizes-of (Of h w) len f = sizes-pass len h w f
 
-module _ (n : ℕ) (ps : Shape) (pl : ℕ) (rs : Shape) (rl : ℕ) (cs : Shape) (cl : ℕ) (read : NamedMetric) (room : HierarchyRoom) (said : Outcome) (e : said ≡ first (hcaaJudgeTable n ps pl rs rl cs cl read room)) where
+module _ (n : ℕ) (ps : Shape) (pl : ℕ) (rs : Shape) (rl : ℕ) (cs : Shape) (cl : ℕ) (read : NamedMetric) (room : Room) (said : Outcome) (e : said ≡ first (hcaaJudgeTable n ps pl rs rl cs cl read room)) where
   record Started : Type 0 where
     matrices : Matrices n ps pl rs rl cs cl
     some : eqb n 0 ≡ false
-    roomy : first (hierarchyRoomLines n room) ≡ Done
+    roomy : first (roomLines n room) ≡ Done
 
   starts : said ≡ Done → Started
   unfolding hcaaJudgeTable namesJudged
   starts d =
       let a = parts-done (matrixLines n ps pl rs rl cs cl) _ (sym e ∙ d) in
-      let b = parts-done (hierarchyRoomLines n room) _ (a .1) in
+      let b = parts-done (roomLines n room) _ (a .1) in
       record { matrices = matrices-done n ps pl rs rl cs cl (a .0); some = none (namesJudged n ps rs cs read) (b .1) .1 .1 .0; roomy = b .0 }
 
   pub sources : Sources said pl ps rl rs
@@ -123,15 +123,15 @@ abbrev Rest : Outcome → Answer → ℕ → Shape → ℕ → Wanted → Type 0
 Rest said got n cs el wanted = (m : Metric) (given : Bool) (method : List ℕ) → wanted ≡ wantedBy m given method → said ≡ restOutcome got n cs el m given method
 
 -- what a call that passes them knows: n assets, their h rows of returns xs, the given covariance and expected returns
-pub record Ready (n : ℕ) (xs : List Float) (h : ℕ) (cs : Shape) (cl el : ℕ) (m : Metric) (given : Bool) (method : List ℕ) (room : HierarchyRoom) : Type 0 where
+pub record Ready (n : ℕ) (xs : List Float) (h : ℕ) (cs : Shape) (cl el : ℕ) (m : Metric) (given : Bool) (method : List ℕ) (room : Room) : Type 0 where
   pub few : n ≤ 64
   pub some : eqb n 0 ≡ false
-  pub roomy : first (hierarchyRoomLines n room) ≡ Done
+  pub roomy : first (roomLines n room) ≡ Done
   pub sized : first (sizes (length xs) h n) ≡ Done
   pub coverable : Coverable cs cl h n
   pub judged : first (sharpeJudged m given method el n h) ≡ Done
 
-module _ (n : ℕ) (p : List Float) (ps : Shape) (xs : List Float) (rs : Shape) (cs : Shape) (cl : ℕ) (read : NamedMetric) (room : HierarchyRoom) (s el : ℕ) (m : Metric) (given : Bool) (method : List ℕ) (wanted : Wanted)
+module _ (n : ℕ) (p : List Float) (ps : Shape) (xs : List Float) (rs : Shape) (cs : Shape) (cl : ℕ) (read : NamedMetric) (room : Room) (s el : ℕ) (m : Metric) (given : Bool) (method : List ℕ) (wanted : Wanted)
     (before : Outcome) (got : Answer) (said : Outcome) (made : List Float) (t : wanted ≡ wantedBy m given method)
     (a : before ≡ first (hcaaJudgeTable n ps (length p) rs (length xs) cs cl read room)) (b : Gathered before p ps xs rs s got made) (f : Rest said got n cs el wanted) where
   abbrev rules : List Line
@@ -184,7 +184,7 @@ module _ (n : ℕ) (p : List Float) (ps : Shape) (xs : List Float) (rs : Shape) 
 
 -- ---- sizes of what is made
 
-module _ {n : ℕ} {xs : List Float} {h : ℕ} {cs : Shape} {cl el : ℕ} {m : Metric} {given : Bool} {method : List ℕ} {room : HierarchyRoom} (z : Ready n xs h cs cl el m given method room) where
+module _ {n : ℕ} {xs : List Float} {h : ℕ} {cs : Shape} {cl el : ℕ} {m : Metric} {given : Bool} {method : List ℕ} {room : Room} (z : Ready n xs h cs cl el m given method room) where
   pub cells-in : h * n ≤ 4096
   cells-in = sized-done (length xs) h n (z .sized) .small
 
@@ -259,7 +259,7 @@ no-both false b = refl
 abbrev asked : HcaaJob → HierarchyCall
 asked j = record { rule = usedRule j; expected-given = true; return-columns = j .assets }
 
-module _ (j : HcaaJob) (room : HierarchyRoom) (before : Outcome) (got : Answer) (said : Outcome) (made : List Float)
+module _ (j : HcaaJob) (room : Room) (before : Outcome) (got : Answer) (said : Outcome) (made : List Float)
     (a : before ≡ first (hcaaJudgeTable (j .assets) (j .prices-shape) (length (j .prices)) (j .returns-shape) (length (j .returns)) (j .covariance-shape) (length (j .covariance)) (metricNamed (j .metric)) room))
     (b : Gathered before (j .prices) (j .prices-shape) (j .returns) (j .returns-shape) (stepOf (j .resample-by)) got made)
     (f : Rest said got (j .assets) (j .covariance-shape) (length (j .expected)) (wantedBy (usedMetric j) (j .expected-given) (j .method))) where
@@ -290,7 +290,7 @@ module _ (j : HcaaJob) (room : HierarchyRoom) (before : Outcome) (got : Answer) 
       ∙ ap (λ (o : Outcome). andThen o (first shares)) (sym (said-is _ _ _ _ _ _ _ _ _ _ _ _ _ _ _ before got said made refl a b f ∙ rw a))
 
   module _ (rows order : List ℕ) (weights scratch : List Float) where
-    ends-refused : (k : Refusal) → said ≡ Refused k → HierarchyCleared room rows order weights scratch → HcaaAllocated j room said rows order weights scratch
+    ends-refused : (k : Refusal) → said ≡ Refused k → Cleared room rows order weights scratch → HcaaAllocated j room said rows order weights scratch
     ends-refused k h z =
         let r : hcaaOutcome j room ≡ Refused k = outcome-is ∙ then-refused said _ k h in
         allocated j room said rows order weights scratch (h ∙ sym r) (laid-cleared _ k (usedRule j) (j .distance) (j .linkage) (hcaaCovariance j) (j .assets) room rows order weights scratch r z)
@@ -334,7 +334,7 @@ module _ (j : HcaaJob) (room : HierarchyRoom) (before : Outcome) (got : Answer) 
         table-pass _ OverLimit _ (t .0) ∙ first-done (sizes (length (hcaaCovariance j)) n n) _ (sizes-pass (length (hcaaCovariance j)) n n z) ∙ table-pass _ SliceLength _ (t .1 .0) ∙ table-end
 
     shapes-right : first (hierarchyShapeLines (asked j) n n) ≡ Done
-    unfolding hierarchyShapeLines otherRows usedRule usedInputs
+    unfolding hierarchyShapeLines otherRows usedRule usedInputs squareLines
     shapes-right =
         table-pass _ NoData _ (fit .some)
         ∙ table-pass _ DimensionMismatch _ (rw (eq-eqb n n refl))
@@ -351,7 +351,7 @@ module _ (j : HcaaJob) (room : HierarchyRoom) (before : Outcome) (got : Answer) 
         first-append (hierarchyJudgeTable (asked j) (length (hcaaCovariance j)) n n room) (hcaaRiskLines (usedRule j) (j .distance) (j .linkage) (hcaaCovariance j) n)
         ∙ ap (λ (o : Outcome). andThen o (first (hcaaRiskLines (usedRule j) (j .distance) (j .linkage) (hcaaCovariance j) n)))
         (first-done (hierarchySizeLines (asked j) (length (hcaaCovariance j)) n n) _ sizes-right
-        ∙ first-done (hierarchyRoomLines n room) _ (fit .roomy)
+        ∙ first-done (roomLines n room) _ (fit .roomy)
         ∙ first-done (hierarchyShapeLines (asked j) n n) _ shapes-right
         ∙ first-done (expectedLines (asked j) n) _ expects-right)
         ∙ sym (first-append (ruleLines (usedRule j) n) (hcaaRiskLines (usedRule j) (j .distance) (j .linkage) (hcaaCovariance j) n))
@@ -396,7 +396,7 @@ module _ (j : HcaaJob) (room : HierarchyRoom) (before : Outcome) (got : Answer) 
 -- ---- how a call ends
 
 module _ (n : ℕ) (p : List Float) (ps : Shape) (xs : List Float) (rs : Shape) (c : List Float) (cs : Shape) (e : List Float) (given : Bool) (m method : List ℕ) (conf : Float) (k : Clusters) (by : List ℕ) (d : Distance) (l : Linkage)
-    (room : HierarchyRoom) (read : NamedMetric) (used : Metric) (wanted : Wanted) (s : ℕ) (before : Outcome) (got : Answer) (said : Outcome) (made : List Float)
+    (room : Room) (read : NamedMetric) (used : Metric) (wanted : Wanted) (s : ℕ) (before : Outcome) (got : Answer) (said : Outcome) (made : List Float)
     (r₀ : read ≡ metricNamed m) (r₁ : used ≡ metricOf read) (r₂ : wanted ≡ wantedBy used given method) (r₃ : s ≡ stepOf by)
     (a : before ≡ first (hcaaJudgeTable n ps (length p) rs (length xs) cs (length c) read room)) (b : Gathered before p ps xs rs s got made) (f : Rest said got n cs (length e) wanted)
     (rows order : List ℕ) (weights scratch : List Float) where
@@ -419,7 +419,7 @@ module _ (n : ℕ) (p : List Float) (ps : Shape) (xs : List Float) (rs : Shape) 
   f′ : Rest said got n cs (length e) (wantedBy (usedMetric call) given method)
   f′ = rw wanted-is at f
 
-  pub ended-refused : (x : Refusal) → said ≡ Refused x → HierarchyCleared room rows order weights scratch → HcaaAllocated (hcaaJob n p ps xs rs c cs e given m method conf k by d l) room said rows order weights scratch
+  pub ended-refused : (x : Refusal) → said ≡ Refused x → Cleared room rows order weights scratch → HcaaAllocated (hcaaJob n p ps xs rs c cs e given m method conf k by d l) room said rows order weights scratch
   ended-refused x h z = ends-refused call room before got said made a′ b′ f′ rows order weights scratch x h z
 
   pub ended-done : (r : Outcome) (height count : ℕ) (cov ys : List Float) → said ≡ Done → height ≡ heightOf got → count ≡ clusterCount k n

@@ -29,7 +29,7 @@ use Rattle.tails.specs.Measures.{otherWidth}
 use Rattle.sharing.specs.Down.{isSharpe, lengthLine, lackLine}
 use Rattle.refusal.specs.declared.Outcome.the-variants.{Done}
 use Rattle.equal.specs.Equal.{EqualShares}
-use Rattle.hierarchy.specs.Hierarchy.{Rule, HierarchyRoom, hierarchyRoomLines, shareLines, HierarchyLaid}
+use Rattle.hierarchy.specs.Hierarchy.{Rule, Room, roomLines, shareLines, HierarchyLaid}
 use Rattle.hcaa.specs.declared.Clusters.{Clusters}
 use Rattle.hcaa.specs.declared.Clusters.the-variants.{All, Count}
 
@@ -198,14 +198,14 @@ unfolding rowsMade usedMetric sharpeJudged
 sharpeLines j = sharpeJudged (usedMetric j) (j .expected-given) (j .method) (length (j .expected)) (j .assets) (rowsMade j)
 
 -- then 16, 17, 6 and the risk: `shareLines` of the crate hierarchy
-unfoldable pub hcaaTable : HcaaJob → HierarchyRoom → List Line
+unfoldable pub hcaaTable : HcaaJob → Room → List Line
 unfolding nameLines matrixRules sharpeLines usedRule hcaaCovariance
 hcaaTable j room =
     matrixLines (j .assets) (j .prices-shape) (length (j .prices)) (j .returns-shape) (length (j .returns)) (j .covariance-shape) (length (j .covariance))
-    ++ (hierarchyRoomLines (j .assets) room
+    ++ (roomLines (j .assets) room
     ++ (nameLines j ++ (matrixRules j ++ (sharpeLines j ++ shareLines (usedRule j) (j .distance) (j .linkage) (hcaaCovariance j) (j .assets)))))
 
-unfoldable pub hcaaOutcome : HcaaJob → HierarchyRoom → Outcome
+unfoldable pub hcaaOutcome : HcaaJob → Room → Outcome
 unfolding hcaaTable
 hcaaOutcome j room = first (hcaaTable j room)
 
@@ -217,28 +217,7 @@ pub record Equally (j : HcaaJob) (r : Outcome) (rows : List ℕ) (weights : List
       → EqualShares (j .assets) (clusterCount (j .clusters) (j .assets)) (take (2 * (j .assets - 1)) rows) (take (j .assets) weights)
 
 -- `HierarchyLaid` of the crate hierarchy says what an outcome leaves in each
-pub record HcaaAllocated (j : HcaaJob) (room : HierarchyRoom) (r : Outcome) (rows order : List ℕ) (weights scratch : List Float) : Type 0 where
+pub record HcaaAllocated (j : HcaaJob) (room : Room) (r : Outcome) (rows order : List ℕ) (weights scratch : List Float) : Type 0 where
   pub answer : r ≡ hcaaOutcome j room
   pub buffers : HierarchyLaid (hcaaOutcome j room) (usedRule j) (j .distance) (j .linkage) (hcaaCovariance j) (j .assets) room rows order weights scratch
   pub equally : Equally j r rows weights
-
-abbrev pub hcaaJob : ℕ → List Float → Shape → List Float → Shape → List Float → Shape
-    → List Float → Bool → List ℕ → List ℕ → Float → Clusters → List ℕ → Distance → Linkage → HcaaJob
-hcaaJob n p ps r rs c cs e eg m me q k by d l = record {
-  assets = n;
-  prices = p;
-  prices-shape = ps;
-  returns = r;
-  returns-shape = rs;
-  covariance = c;
-  covariance-shape = cs;
-  expected = e;
-  expected-given = eg;
-  metric = m;
-  method = me;
-  confidence = q;
-  clusters = k;
-  resample-by = by;
-  distance = d;
-  linkage = l;
-}

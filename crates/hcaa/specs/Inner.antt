@@ -16,14 +16,17 @@ use Rattle.lent.specs.declared.Answer.the-variants as answer
 use Rattle.lent.specs.declared.Shape.{Shape}
 use Rattle.lent.specs.declared.Shape.the-variants.{Absent, Of}
 use Rattle.inputs.specs.Inputs.{absent, matrixLines}
+use Rattle.linkage.specs.declared.Distance.{Distance}
+use Rattle.linkage.specs.declared.Linkage.{Linkage}
 use Rattle.stats.specs.Expected.{meanReturn, exponentialReturn}
 use Rattle.metrics.specs.declared.Metric.{Metric}
 use Rattle.metrics.specs.declared.NamedMetric.{NamedMetric}
 use Rattle.sharing.specs.Down.{isSharpe}
-use Rattle.hierarchy.specs.Hierarchy.{HierarchyRoom, hierarchyRoomLines}
+use Rattle.hierarchy.specs.Hierarchy.{Room, roomLines}
+use Rattle.hcaa.specs.declared.Clusters.{Clusters}
 use Rattle.hcaa.specs.declared.Wanted.{Wanted}
 use Rattle.hcaa.specs.declared.Wanted.the-variants.{Nothing, Given, Mean, Exponential, Unknown}
-use Rattle.hcaa.specs.Hcaa.{isMean, isExponential, hcaaReturnRows, returnColumns, hcaaReturnCells, pricesRefused, namesJudged, rowsJudged, sharpeJudged}
+use Rattle.hcaa.specs.Hcaa.{HcaaJob, isMean, isExponential, hcaaReturnRows, returnColumns, hcaaReturnCells, pricesRefused, namesJudged, rowsJudged, sharpeJudged}
 
 -- ---- which expected returns are read: under a metric, whether they are given, the method's name
 
@@ -33,9 +36,9 @@ wantedBy m given method = cond (isSharpe m) (cond given Given (cond (isMean meth
 
 -- ---- what the sizes, the shapes and the metric's name alone refuse
 
-unfoldable pub hcaaJudgeTable : ℕ → Shape → ℕ → Shape → ℕ → Shape → ℕ → NamedMetric → HierarchyRoom → List Line
+unfoldable pub hcaaJudgeTable : ℕ → Shape → ℕ → Shape → ℕ → Shape → ℕ → NamedMetric → Room → List Line
 unfolding namesJudged
-hcaaJudgeTable n p pl r rl c cl read room = matrixLines n p pl r rl c cl ++ (hierarchyRoomLines n room ++ namesJudged n p r c read)
+hcaaJudgeTable n p pl r rl c cl read room = matrixLines n p pl r rl c cl ++ (roomLines n room ++ namesJudged n p r c read)
 
 -- ---- the returns
 
@@ -94,3 +97,25 @@ hopedFor e xs h n Given = e
 hopedFor e xs h n Mean = tab n (meanReturn xs h n)
 hopedFor e xs h n Exponential = tab n (exponentialReturn xs h n)
 hopedFor e xs h n Unknown = []
+
+-- a job by its parts
+abbrev pub hcaaJob : ℕ → List Float → Shape → List Float → Shape → List Float → Shape
+    → List Float → Bool → List ℕ → List ℕ → Float → Clusters → List ℕ → Distance → Linkage → HcaaJob
+hcaaJob n p ps r rs c cs e eg m me q k by d l = record {
+  assets = n;
+  prices = p;
+  prices-shape = ps;
+  returns = r;
+  returns-shape = rs;
+  covariance = c;
+  covariance-shape = cs;
+  expected = e;
+  expected-given = eg;
+  metric = m;
+  method = me;
+  confidence = q;
+  clusters = k;
+  resample-by = by;
+  distance = d;
+  linkage = l;
+}

@@ -139,7 +139,7 @@ fn judge(
         covariance,
         covariance_len,
     );
-    let rooms = hierarchy::judge_rooms(n, rows, order, weights, scratch);
+    let rooms = rooms::judge_rooms(n, rows, order, weights, scratch);
     let names = judge_names(n, prices, returns, covariance, metric);
     refusal::and_then(matrices, refusal::and_then(rooms, names))
 }
@@ -367,7 +367,7 @@ pub fn allocate(
     );
     let said = judge_gathered(got, assets, covariance_shape, expected.len(), wanted);
     let Outcome::Done = said else {
-        hierarchy::clear_all(rows, order, weights, scratch);
+        rooms::clear_all(rows, order, weights, scratch);
         return said;
     };
     let height = height_of(got);

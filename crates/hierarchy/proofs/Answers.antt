@@ -26,15 +26,16 @@ use Rattle.distances.specs.declared.Measure.the-variants.{Hcaa}
 use Rattle.arranging.proofs.Laws.{tree-is}
 use Rattle.clusters.specs.Shares.{isNone}
 use Rattle.sharing.specs.Allot.{downShares}
-use Rattle.sharing.specs.Down.{DownCall, downCall, downOutcome, downAnswer, downWeights}
+use Rattle.sharing.specs.Down.{DownCall, downOutcome, downAnswer, downWeights}
+use Rattle.sharing.specs.Inner.{downCall}
 use Rattle.sharing.proofs.Judged.{Right, down-as-shares}
-use Rattle.hierarchy.specs.Hierarchy.{Rule, HierarchyCall, HierarchyRoom, HierarchyCleared, hierarchyJudgeTable, hcaaRiskLines, hierarchyTable, hierarchyOutcome, hcaaRows, hcaaShares, HierarchyLaid, HierarchyAnswered}
+use Rattle.hierarchy.specs.Hierarchy.{Rule, HierarchyCall, Room, Cleared, hierarchyJudgeTable, hcaaRiskLines, hierarchyTable, hierarchyOutcome, hcaaRows, hcaaShares, HierarchyLaid, HierarchyAnswered}
 use Rattle.hierarchy.specs.Inner.{Planted}
 use Rattle.hierarchy.proofs.Laws.{Judged, judged}
 
 -- buffers that are cleared are what a refusal leaves
-pub laid-cleared : (o : Outcome) (k : Refusal) (q : Rule) (d : Distance) (l : Linkage) (cov : List Float) (n : ℕ) (room : HierarchyRoom) (rows order : List ℕ) (weights scratch : List Float)
-    → o ≡ Refused k → HierarchyCleared room rows order weights scratch → HierarchyLaid o q d l cov n room rows order weights scratch
+pub laid-cleared : (o : Outcome) (k : Refusal) (q : Rule) (d : Distance) (l : Linkage) (cov : List Float) (n : ℕ) (room : Room) (rows order : List ℕ) (weights scratch : List Float)
+    → o ≡ Refused k → Cleared room rows order weights scratch → HierarchyLaid o q d l cov n room rows order weights scratch
 laid-cleared o k q d l cov n room rows order weights scratch e z =
     record {
       rows-are = z .rows-are ∙ laid-refused 0 o k _ _ e;
@@ -50,7 +51,7 @@ joined Done true k b = refl
 joined Done false k b = refl
 joined (Refused r) t k b = refl
 
-module _ (q : HierarchyCall) (d : Distance) (l : Linkage) (cov : List Float) (rows-in n : ℕ) (room : HierarchyRoom) (before said : Outcome) (tree leaves : List ℕ)
+module _ (q : HierarchyCall) (d : Distance) (l : Linkage) (cov : List Float) (rows-in n : ℕ) (room : Room) (before said : Outcome) (tree leaves : List ℕ)
     (e : before ≡ first (hierarchyJudgeTable q (length cov) rows-in n room)) (p : Planted before d l cov n said tree leaves) where
   -- what the judge and the variances said, then the sharing
   outcome-is : hierarchyOutcome q d l cov rows-in n room ≡ andThen said (first ((isNone (hcaaShares (q .rule) d l cov n), NoData) ∷ []))
@@ -62,7 +63,7 @@ module _ (q : HierarchyCall) (d : Distance) (l : Linkage) (cov : List Float) (ro
       ∙ ap (λ (o : Outcome). andThen o (first ((isNone (hcaaShares (q .rule) d l cov n), NoData) ∷ []))) (ap (λ (o : Outcome). andThen o (orElse (anyLow cov n) NoData Done)) (sym e) ∙ sym (p .answer))
 
   module _ (rows order : List ℕ) (weights scratch : List Float) where
-    pub answered-refused : (k : Refusal) → said ≡ Refused k → HierarchyCleared room rows order weights scratch → HierarchyAnswered q d l cov rows-in n room said rows order weights scratch
+    pub answered-refused : (k : Refusal) → said ≡ Refused k → Cleared room rows order weights scratch → HierarchyAnswered q d l cov rows-in n room said rows order weights scratch
     answered-refused k h z =
         let o : hierarchyOutcome q d l cov rows-in n room ≡ Refused k = outcome-is ∙ then-refused said _ k h in
         record { answer = h ∙ sym o; buffers = laid-cleared _ k (q .rule) d l cov n room rows order weights scratch o z }

@@ -33,7 +33,7 @@ use Rattle.metrics.specs.declared.Metric.the-variants.{MinimumVariance, SharpeR
 use Rattle.sharing.specs.Split.{Inputs, bounded, splitBy, byRisk, scored, splitOf}
 use Rattle.sharing.specs.Allot.{spreadOf, equalOf, dealTo, variedOf, insideOf, allotted, downShares}
 use Rattle.sharing.specs.Down.{isSharpe, isTailRisk, metricTailLines, otherRows}
-use Rattle.hierarchy.specs.Hierarchy.{Rule, HierarchyCall, HierarchyRoom, hcaaRows, hcaaOrder, hcaaShares, hierarchyRoomLines, hierarchySizeLines, hierarchyShapeLines, expectedLines, ruleLines, hierarchyJudgeTable, hcaaRiskLines, hierarchyTable, hierarchyOutcome}
+use Rattle.hierarchy.specs.Hierarchy.{Rule, HierarchyCall, Room, hcaaRows, hcaaOrder, hcaaShares, roomLines, hierarchySizeLines, hierarchyShapeLines, expectedLines, ruleLines, hierarchyJudgeTable, hcaaRiskLines, hierarchyTable, hierarchyOutcome, squareLines}
 
 abbrev all : List Bool → Bool
 all [] = true
@@ -54,7 +54,7 @@ told outcome.Done = 0 ∷ []
 told (outcome.Refused r) = numberOf r ∷ valuesOf r
 
 -- the buffers that n assets take
-abbrev room : ℕ → HierarchyRoom
+abbrev room : ℕ → Room
 room n = record { rows = 2 * (n - 1); order = n; weights = n; scratch = 8192 }
 
 -- and the bits of the weights
@@ -64,7 +64,7 @@ answer o q cov n = told o ++ map (toBits binary64) (laid pz o n (weightsIn (hcaa
 abbrev weights : HierarchyCall → List ℕ → ℕ → List ℕ
 weights q cov n = answer (hierarchyOutcome q Correlation Single (doubles cov) n n (room n)) (q .rule) (doubles cov) n
 
-abbrev refused : HierarchyCall → List ℕ → ℕ → ℕ → HierarchyRoom → List ℕ
+abbrev refused : HierarchyCall → List ℕ → ℕ → ℕ → Room → List ℕ
 refused q cov rows w r = told (hierarchyOutcome q Correlation Single (doubles cov) rows w r)
 
 -- no expected returns and no return rows
@@ -170,5 +170,5 @@ of-tails =
     ∷ []
 
 pub figures : all of-scope && (all refusals && all of-tails) ≡ true
-unfolding hcaaRows hcaaOrder hcaaShares hierarchyRoomLines hierarchySizeLines hierarchyShapeLines isTailRisk metricTailLines otherRows noPart expectedLines ruleLines hierarchyJudgeTable hcaaRiskLines hierarchyTable hierarchyOutcome correlationsOf distancesIn treeDistances treeRows treeOrder isSharpe downShares allotted insideOf variedOf equalOf spreadOf dealTo splitOf scored factorOf byRisk splitBy bounded first laid overLimit otherLength sizes tab grid sumTo sumOn sumRows anyTo range span isNone weightsIn recip recipSum shares term varianceOf outside anyLowOf riskTable sizeTable sharesOutcome varianceOutcome varianceAnswer correlationCell anyLow clamped distanceOf distanceCell offDiagonal square between betweenCell wardF updateF pairBefore near better offer look scanRow scanFrom scanAll both movable moved movedAll merged step copied start stateAt mergeRows grow treeAt leaves minOf maxOf absOf clampOf finiteOf countOf oneOver root isqrt lt le eq isNan neg add sum sub mul div ofInt round units odd trailingZeros size ieee-span climb ofFields ofBits toBits
+unfolding hcaaRows hcaaOrder hcaaShares roomLines hierarchySizeLines hierarchyShapeLines isTailRisk metricTailLines otherRows noPart expectedLines ruleLines hierarchyJudgeTable hcaaRiskLines hierarchyTable hierarchyOutcome correlationsOf distancesIn treeDistances treeRows treeOrder isSharpe downShares allotted insideOf variedOf equalOf spreadOf dealTo splitOf scored factorOf byRisk splitBy bounded first laid overLimit otherLength sizes tab grid sumTo sumOn sumRows anyTo range span isNone weightsIn recip recipSum shares term varianceOf outside anyLowOf riskTable sizeTable sharesOutcome varianceOutcome varianceAnswer correlationCell anyLow clamped distanceOf distanceCell offDiagonal square between betweenCell wardF updateF pairBefore near better offer look scanRow scanFrom scanAll both movable moved movedAll merged step copied start stateAt mergeRows grow treeAt leaves minOf maxOf absOf clampOf finiteOf countOf oneOver root isqrt lt le eq isNan neg add sum sub mul div ofInt round units odd trailingZeros size ieee-span climb ofFields ofBits toBits squareLines
 figures = refl

@@ -32,13 +32,13 @@ use Rattle.arranging.specs.Arranging.{correlationsOf, Arranged}
 use Rattle.arranging.proofs.Laws.{laid-front, squares-pass, Arrangeable, rows-front, order-front}
 use Rattle.sharing.specs.Down.{isSharpe, isTailRisk, metricTailLines}
 use Rattle.sharing.proofs.Judged.{Feeding, neither, expecting, feeding}
-use Rattle.hierarchy.specs.Hierarchy.{HierarchyCall, HierarchyRoom, hierarchyRoomLines, hierarchySizeLines, hierarchyShapeLines, expectedLines, ruleLines, hierarchyJudgeTable, hcaaRows, hcaaOrder}
+use Rattle.hierarchy.specs.Hierarchy.{HierarchyCall, Room, roomLines, hierarchySizeLines, hierarchyShapeLines, expectedLines, ruleLines, hierarchyJudgeTable, hcaaRows, hcaaOrder, squareLines}
 use Rattle.hierarchy.specs.Inner.{Sown, Planted}
 
 -- ---- the judge
 
 -- n assets, their covariance in a slice of len numbers
-pub record Judged (q : HierarchyCall) (n len : ℕ) (room : HierarchyRoom) : Type 0 where
+pub record Judged (q : HierarchyCall) (n len : ℕ) (room : Room) : Type 0 where
   pub some : 0 < n
   pub few : n ≤ 64
   pub cells : len ≡ n * n
@@ -53,15 +53,15 @@ pub record Judged (q : HierarchyCall) (n len : ℕ) (room : HierarchyRoom) : Typ
   pub returns : length (q .rule .inputs .returns) ≡ q .rule .inputs .return-rows * q .return-columns
   pub feeds : isTailRisk (q .rule .metric) ≡ true → Feeding (q .rule .inputs) (q .return-columns) n
 
-module _ (q : HierarchyCall) (len rows w : ℕ) (room : HierarchyRoom) (said : Outcome) (e : said ≡ first (hierarchyJudgeTable q len rows w room)) where
+module _ (q : HierarchyCall) (len rows w : ℕ) (room : Room) (said : Outcome) (e : said ≡ first (hierarchyJudgeTable q len rows w room)) where
   pub judged : said ≡ Done → Judged q w len room
-  unfolding hierarchyJudgeTable hierarchySizeLines sizes hierarchyRoomLines hierarchyShapeLines expectedLines ruleLines metricTailLines
+  unfolding hierarchyJudgeTable hierarchySizeLines sizes roomLines hierarchyShapeLines expectedLines ruleLines metricTailLines squareLines
   judged d =
       let a = parts-done (hierarchySizeLines q len rows w) _ (sym e ∙ d) in
       let g = none (hierarchySizeLines q len rows w) (a .0) in
       let s = within-limit rows w (g .1 .0) in
-      let b = parts-done (hierarchyRoomLines w room) _ (a .1) in
-      let t = none (hierarchyRoomLines w room) (b .0) in
+      let b = parts-done (roomLines w room) _ (a .1) in
+      let t = none (roomLines w room) (b .0) in
       let c = parts-done (hierarchyShapeLines q rows w) _ (b .1) in
       let h = none (hierarchyShapeLines q rows w) (c .0) in
       let x = none (expectedLines q w ++ ruleLines (q .rule) w) (c .1) in

@@ -18,8 +18,10 @@ use Rattle.clusters.specs.Shares.{Shares, isNone, weightsIn}
 use Rattle.arranging.specs.Arranging.{correlationsOf, treeRows, treeOrder}
 use Rattle.sharing.specs.Allot.{downShares}
 -- the rule, the rooms and their lines are `admission`'s
-pub use Rattle.admission.specs.Admission.{Rule, HierarchyCall, HierarchyRoom, hierarchyRoom, HierarchyCleared}
-unfoldable pub use Rattle.admission.specs.Admission.{hierarchyRoomLines, hierarchySizeLines, hierarchyShapeLines, expectedLines, ruleLines, hierarchyJudgeTable}
+pub use Rattle.rooms.specs.Rooms.{Room, Cleared}
+pub use Rattle.admission.specs.Admission.{Rule, HierarchyCall}
+unfoldable pub use Rattle.rooms.specs.Rooms.{roomLines, squareLines}
+unfoldable pub use Rattle.admission.specs.Admission.{hierarchySizeLines, hierarchyShapeLines, expectedLines, ruleLines, hierarchyJudgeTable}
 
 -- ---- the steps
 
@@ -50,17 +52,17 @@ unfolding ruleLines hcaaRiskLines
 shareLines q d l cov n = ruleLines q n ++ hcaaRiskLines q d l cov n
 
 -- 9, 10, 11; 1; 3; Sharpe 3, 4; 16, 17; 6; then the risk
-unfoldable pub hierarchyTable : HierarchyCall → Distance → Linkage → List Float → ℕ → ℕ → HierarchyRoom → List Line
+unfoldable pub hierarchyTable : HierarchyCall → Distance → Linkage → List Float → ℕ → ℕ → Room → List Line
 unfolding hierarchyJudgeTable hcaaRiskLines
 hierarchyTable q d l cov rows w room = hierarchyJudgeTable q (length cov) rows w room ++ hcaaRiskLines (q .rule) d l cov w
 
-unfoldable pub hierarchyOutcome : HierarchyCall → Distance → Linkage → List Float → ℕ → ℕ → HierarchyRoom → Outcome
+unfoldable pub hierarchyOutcome : HierarchyCall → Distance → Linkage → List Float → ℕ → ℕ → Room → Outcome
 unfolding hierarchyTable
 hierarchyOutcome q d l cov rows w room = first (hierarchyTable q d l cov rows w room)
 
 -- ---- the answer: what an outcome leaves in each lent buffer
 
-pub record HierarchyLaid (o : Outcome) (q : Rule) (d : Distance) (l : Linkage) (cov : List Float) (n : ℕ) (room : HierarchyRoom)
+pub record HierarchyLaid (o : Outcome) (q : Rule) (d : Distance) (l : Linkage) (cov : List Float) (n : ℕ) (room : Room)
     (rows order : List ℕ) (weights scratch : List Float) : Type 0 where
   pub rows-are : rows ≡ laid 0 o (room .rows) (hcaaRows d l cov n)
   pub order-is : order ≡ laid 0 o (room .order) (hcaaOrder d l cov n)
@@ -68,7 +70,7 @@ pub record HierarchyLaid (o : Outcome) (q : Rule) (d : Distance) (l : Linkage) (
   pub scratch-is : scratch ≡ zeros (room .scratch)
 
 -- what `allocate_covariance` returns, and its buffers
-pub record HierarchyAnswered (q : HierarchyCall) (d : Distance) (l : Linkage) (cov : List Float) (rows-in w : ℕ) (room : HierarchyRoom)
+pub record HierarchyAnswered (q : HierarchyCall) (d : Distance) (l : Linkage) (cov : List Float) (rows-in w : ℕ) (room : Room)
     (r : Outcome) (rows order : List ℕ) (weights scratch : List Float) : Type 0 where
   pub answer : r ≡ hierarchyOutcome q d l cov rows-in w room
   pub buffers : HierarchyLaid (hierarchyOutcome q d l cov rows-in w room) (q .rule) d l cov w room rows order weights scratch

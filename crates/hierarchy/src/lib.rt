@@ -1,7 +1,5 @@
 // Hierarchical clustering asset allocation on a given covariance.
 
-pub use admission::clear_all;
-pub use admission::judge_rooms;
 use distances::Measure;
 use linkage::Distance;
 use linkage::Linkage;
@@ -145,7 +143,7 @@ pub fn allocate_covariance(
         &mut leaves,
     );
     let Outcome::Done = said else {
-        clear_all(rows, order, weights, scratch);
+        rooms::clear_all(rows, order, weights, scratch);
         return said;
     };
     let k = 2 * (columns - 1);

@@ -30,7 +30,7 @@ use Rattle.clusters.specs.Clusters.{recip, recipSum, shares, term, varianceOf, 
 use Rattle.clusters.specs.Shares.{isNone, weightsIn}
 use Rattle.bisection.specs.Bisection.{factorOf, sidesFactor, halved, bisected, normal, bisectionShares}
 use Rattle.arranging.specs.Arranging.{distancesIn, treeRows, treeOrder}
-use Rattle.parity.specs.Parity.{ParityRoom, correlationsOf, hrpDistances, treeDistances, hrpRows, hrpOrder, hrpShares, seriatedIn, parityRoomLines, hrpRiskLines}
+use Rattle.parity.specs.Parity.{ParityRoom, correlationsOf, hrpDistances, treeDistances, hrpRows, hrpOrder, hrpShares, seriatedIn, parityRoomLines, hrpRiskLines, roomLines}
 use Rattle.inputs.specs.Inputs.{absent, rowsOfShape, otherColumns, otherSize, matrixLines, sampled, noReturns, madeReturns}
 use Rattle.hrp.specs.Hrp.{HrpJob, pricesAlone, hrpReturnRows, hrpReturnCells, estimated, shrunkIf, hrpCovarianceBy, hrpCovariance, hrpShapeLines, numberLines, hrpTable, hrpOutcome}
 
@@ -159,5 +159,5 @@ refusals =
     ∷ []
 
 pub figures : all done && all refusals ≡ true
-unfolding distancesIn treeRows treeOrder hrpOutcome hrpTable matrixLines hrpShapeLines numberLines pricesAlone hrpCovariance hrpCovarianceBy shrunkIf estimated hrpReturnCells hrpReturnRows absent rowsOfShape otherColumns otherSize sampled noReturns madeReturns isWeekly isMonthly stepOf keepsAll keptRows keptRow sampledCell returnCell zeroMet lower sameBytes isWord meanOf spread covarianceIn covarianceCell shrunkCell countOf ofInt tooBig misfits correlationsOf hrpDistances treeDistances hrpRows hrpOrder hrpShares seriatedIn parityRoomLines hrpRiskLines first laid overLimit otherLength sizes tab grid sumTo sumOn sumRows anyTo range span isNone weightsIn factorOf sidesFactor halved bisected normal bisectionShares recip recipSum shares term varianceOf outside anyLowOf riskTable sizeTable varianceOutcome varianceAnswer correlationCell anyLow clamped distanceOf distanceCell offDiagonal square between betweenCell wardF updateF pairBefore near better offer look scanRow scanFrom scanAll both movable moved movedAll merged step copied start stateAt mergeRows grow treeAt leaves seriatedCell minOf maxOf absOf clampOf root isqrt lt le eq isNan neg add sum sub mul div round units odd trailingZeros size ieee-span climb ofFields ofBits toBits
+unfolding distancesIn treeRows treeOrder hrpOutcome hrpTable matrixLines hrpShapeLines numberLines pricesAlone hrpCovariance hrpCovarianceBy shrunkIf estimated hrpReturnCells hrpReturnRows absent rowsOfShape otherColumns otherSize sampled noReturns madeReturns isWeekly isMonthly stepOf keepsAll keptRows keptRow sampledCell returnCell zeroMet lower sameBytes isWord meanOf spread covarianceIn covarianceCell shrunkCell countOf ofInt tooBig misfits correlationsOf hrpDistances treeDistances hrpRows hrpOrder hrpShares seriatedIn parityRoomLines hrpRiskLines first laid overLimit otherLength sizes tab grid sumTo sumOn sumRows anyTo range span isNone weightsIn factorOf sidesFactor halved bisected normal bisectionShares recip recipSum shares term varianceOf outside anyLowOf riskTable sizeTable varianceOutcome varianceAnswer correlationCell anyLow clamped distanceOf distanceCell offDiagonal square between betweenCell wardF updateF pairBefore near better offer look scanRow scanFrom scanAll both movable moved movedAll merged step copied start stateAt mergeRows grow treeAt leaves seriatedCell minOf maxOf absOf clampOf root isqrt lt le eq isNan neg add sum sub mul div round units odd trailingZeros size ieee-span climb ofFields ofBits toBits roomLines
 figures = refl

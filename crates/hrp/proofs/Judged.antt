@@ -23,7 +23,7 @@ use Rattle.resample.specs.Resample.{stepOf}
 use Rattle.linkage.specs.declared.Distance.{Distance}
 use Rattle.inputs.specs.Inputs.{absent, rowsOfShape, otherColumns, otherSize, matrixLines, noReturns}
 use Rattle.inputs.proofs.Laws.{sizes-pass, Fits, Matrices, matrices-done}
-use Rattle.rooms.specs.Rooms.{ParityRoom, parityRoomLines, parityJudgeTable, shapesJudged, hrpJudgeTable, ParityCleared}
+use Rattle.rooms.specs.Rooms.{ParityRoom, parityRoomLines, parityJudgeTable, shapesJudged, hrpJudgeTable, ParityCleared, squareLines}
 use Rattle.parity.specs.Parity.{hrpRiskLines, parityOutcome, ParityLaid, ParityAnswered}
 use Rattle.parity.proofs.Answers.{parity-said, laid-cleared}
 use Rattle.hrp.specs.Hrp.{HrpJob, pricesAlone, hrpReturnRows, hrpReturnCells, estimated, shrunkIf, hrpCovarianceBy, hrpCovariance, hrpShapeLines, numberLines, hrpTable, hrpOutcome, HrpAllocated}
@@ -92,7 +92,7 @@ cleared o k d cov n room rows order weights correlations distances scratch e z =
 -- ---- on a covariance that is held: what `parity` says is what its risk says
 
 held : (d : Distance) (cov : List Float) (n : ℕ) (room : ParityRoom) → n ≤ 64 → eqb n 0 ≡ false → first (parityRoomLines n room) ≡ Done → length cov ≡ n * n → parityOutcome d cov n n room ≡ first (hrpRiskLines d cov n)
-unfolding parityJudgeTable
+unfolding parityJudgeTable squareLines
 held d cov n room few some roomy cells =
     let z : Sized (length cov) n n = record { tall = omega (arith, few); wide = few; small = square-in n few; cells = cells } in
     let p : first (parityJudgeTable (length cov) n n room) ≡ Done =

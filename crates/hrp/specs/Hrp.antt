@@ -94,21 +94,7 @@ hrpOutcome j room = first (hrpTable j room)
 
 -- ---- the answer, and every lent buffer: `ParityLaid` of the crate parity says what an outcome leaves in each
 
-pub record HrpAllocated (j : HrpJob) (room : ParityRoom) (r : Outcome) (rows order : List ℕ) (weights correlations distances scratch : List Float) : Type 0 where
+pub record HrpAllocated (j : HrpJob) (room : ParityRoom) (r : Outcome)
+    (rows order : List ℕ) (weights correlations distances scratch : List Float) : Type 0 where
   pub answer : r ≡ hrpOutcome j room
   pub buffers : ParityLaid (hrpOutcome j room) (j .distance) (hrpCovariance j) (j .assets) room rows order weights correlations distances scratch
-
--- the same, by places
-abbrev pub hrpJob : ℕ → List Float → Shape → List Float → Shape → List Float → Shape → List ℕ → Bool → Distance → HrpJob
-hrpJob n p ps r rs c cs by shrink d = record {
-  assets = n;
-  prices = p;
-  prices-shape = ps;
-  returns = r;
-  returns-shape = rs;
-  covariance = c;
-  covariance-shape = cs;
-  resample-by = by;
-  use-shrinkage = shrink;
-  distance = d;
-}

@@ -15,7 +15,8 @@ use Rattle.lent.specs.declared.Shape.{Shape}
 use Rattle.lent.specs.declared.Shape.the-variants.{Absent, Of}
 use Rattle.resample.specs.Resample.{keptRows}
 use Rattle.inputs.specs.Inputs.{absent, rowsOfShape, noReturns, madeReturns}
-use Rattle.hrp.specs.Hrp.{estimated, shrunkIf}
+use Rattle.linkage.specs.declared.Distance.{Distance}
+use Rattle.hrp.specs.Hrp.{HrpJob, estimated, shrunkIf}
 
 -- ---- the covariance of returns, and of prices sampled by a step s: what the call says, and what then stands at the front of out
 
@@ -76,3 +77,18 @@ pub record HrpGathered (said : Outcome) (q : HrpSource) (r : Outcome) (out : Lis
 unfoldable pub usedBy : Shape → List Float → List Float → List Float
 usedBy Absent given made = made
 usedBy (Of rows w) given made = given
+
+-- a job by its parts
+abbrev pub hrpJob : ℕ → List Float → Shape → List Float → Shape → List Float → Shape → List ℕ → Bool → Distance → HrpJob
+hrpJob n p ps r rs c cs by shrink d = record {
+  assets = n;
+  prices = p;
+  prices-shape = ps;
+  returns = r;
+  returns-shape = rs;
+  covariance = c;
+  covariance-shape = cs;
+  resample-by = by;
+  use-shrinkage = shrink;
+  distance = d;
+}

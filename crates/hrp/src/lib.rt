@@ -192,7 +192,7 @@ pub fn allocate(
         &mut made,
     );
     let Outcome::Done = said else {
-        rooms::clear_all(
+        rooms::clear_with_matrices(
             rows,
             order,
             weights,

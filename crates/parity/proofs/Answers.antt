@@ -30,7 +30,7 @@ use Rattle.clusters.specs.Shares.{weightsIn}
 use Rattle.bisection.specs.Bisection.{bisectionShares, bisectionAnswer, bisectionWeights}
 use Rattle.arranging.specs.Arranging.{distancesIn, treeOrder, Arranged}
 use Rattle.arranging.proofs.Laws.{Arrangeable, arrange-passes, order-front, distances-front, length-distances, order-each}
-use Rattle.rooms.specs.Rooms.{ParityRoom, parityRoom, parityRoomLines, parityJudgeTable, ParityCleared}
+use Rattle.rooms.specs.Rooms.{ParityRoom, roomLines, parityRoomLines, squareLines, parityJudgeTable, ParityCleared}
 use Rattle.parity.specs.Parity.{hrpRiskLines, parityTable, parityOutcome, correlationsOf, hrpDistances, hrpRows, hrpOrder, hrpShares, ParityLaid, ParityAnswered}
 use Rattle.parity.specs.Inner.{ParitySized, ParityReady, ParityWorked}
 use Rattle.parity.proofs.Laws.{sideOutcome, share-told, share-laid, seriated-laid}
@@ -38,7 +38,7 @@ use Rattle.parity.proofs.Laws.{sideOutcome, share-told, share-laid, ser
 -- ---- the sizes
 
 pub ready : (said : Outcome) (len rows w : ℕ) (room : ParityRoom) → said ≡ first (parityJudgeTable len rows w room) → ParityReady said len w room
-unfolding parityJudgeTable parityRoomLines
+unfolding parityJudgeTable parityRoomLines roomLines squareLines
 ready said len rows w room h =
     record {
       sized = λ d.
@@ -55,9 +55,9 @@ ready said len rows w room h =
             for-rows = ltb-false (room .rows) (2 * (w - 1)) (t .0);
             for-order = ltb-false (room .order) w (t .1 .0);
             for-weights = ltb-false (room .weights) w (t .1 .1 .0);
-            for-correlations = ltb-false (room .correlations) (w * w) (t .1 .1 .1 .0);
-            for-distances = ltb-false (room .distances) (w * w) (t .1 .1 .1 .1 .0);
-            for-scratch = ltb-false (room .scratch) 8192 (t .1 .1 .1 .1 .1 .0);
+            for-scratch = ltb-false (room .scratch) 8192 (t .1 .1 .1 .0);
+            for-correlations = ltb-false (room .correlations) (w * w) (t .1 .1 .1 .1 .0);
+            for-distances = ltb-false (room .distances) (w * w) (t .1 .1 .1 .1 .1 .0);
           };
     }
 
@@ -140,16 +140,17 @@ module _ (d : Distance) (cov : List Float) where
         → o ≡ Refused k → ParityCleared room rows order weights correlations distances scratch → ParityLaid o d cov n room rows order weights correlations distances scratch
     laid-cleared o room rows order weights correlations distances scratch k e z =
         record {
-          rows-are = z .rows-are ∙ laid-refused 0 o k _ _ e;
-          order-is = z .order-is ∙ laid-refused 0 o k _ _ e;
-          weights-are = z .weights-are ∙ laid-refused pz o k _ _ e;
+          rows-are = z .shared .rows-are ∙ laid-refused 0 o k _ _ e;
+          order-is = z .shared .order-is ∙ laid-refused 0 o k _ _ e;
+          weights-are = z .shared .weights-are ∙ laid-refused pz o k _ _ e;
           correlations-are = z .correlations-are ∙ laid-refused pz o k _ _ e;
           distances-are = z .distances-are ∙ laid-refused pz o k _ _ e;
-          scratch-is = z .scratch-is;
+          scratch-is = z .shared .scratch-is;
         }
 
 -- buffers that kept their lengths
-pub same-room : (a b c d e f a′ b′ c′ d′ e′ f′ : ℕ) → a ≡ a′ → b ≡ b′ → c ≡ c′ → d ≡ d′ → e ≡ e′ → f ≡ f′ → parityRoom a b c d e f ≡ parityRoom a′ b′ c′ d′ e′ f′
+pub same-room : (a b c d e f a′ b′ c′ d′ e′ f′ : ℕ) → a ≡ a′ → b ≡ b′ → c ≡ c′ → d ≡ d′ → e ≡ e′ → f ≡ f′
+    → _≡_ {A = ParityRoom} (record { rows = a; order = b; weights = c; correlations = d; distances = e; scratch = f }) (record { rows = a′; order = b′; weights = c′; correlations = d′; distances = e′; scratch = f′ })
 same-room a b c d e f a′ b′ c′ d′ e′ f′ p q r s t u = cc
 
 pub cleared-as : (rows order : List ℕ) (weights correlations distances scratch : List Float) (a b : ParityRoom) → a ≡ b

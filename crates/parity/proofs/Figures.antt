@@ -27,7 +27,7 @@ use Rattle.arranging.specs.Arranging.{distancesIn, treeRows, treeOrder}
 use Rattle.clusters.specs.Clusters.{recip, recipSum, shares, term, varianceOf, outside, anyListedLow as anyLowOf, riskTable, sizeTable, varianceOutcome, varianceAnswer}
 use Rattle.clusters.specs.Shares.{isNone, weightsIn}
 use Rattle.bisection.specs.Bisection.{factorOf, sidesFactor, halved, bisected, normal, bisectionShares}
-use Rattle.parity.specs.Parity.{ParityRoom, correlationsOf, hrpDistances, treeDistances, hrpRows, hrpOrder, hrpShares, seriatedIn, parityRoomLines, parityJudgeTable, hrpRiskLines, parityTable, parityOutcome}
+use Rattle.parity.specs.Parity.{ParityRoom, correlationsOf, hrpDistances, treeDistances, hrpRows, hrpOrder, hrpShares, seriatedIn, parityRoomLines, parityJudgeTable, hrpRiskLines, parityTable, parityOutcome, roomLines, squareLines}
 
 abbrev all : List Bool → Bool
 all [] = true
@@ -122,5 +122,5 @@ refusals =
     ∷ []
 
 pub figures : all (of-scope Correlation) && all (of-scope DistanceOfDistances) && all others && all refusals ≡ true
-unfolding distancesIn treeRows treeOrder correlationsOf hrpDistances treeDistances hrpRows hrpOrder hrpShares seriatedIn parityRoomLines parityJudgeTable hrpRiskLines parityTable parityOutcome first laid overLimit otherLength sizes tab grid sumTo sumOn sumRows anyTo range span isNone weightsIn factorOf sidesFactor halved bisected normal bisectionShares recip recipSum shares term varianceOf outside anyLowOf riskTable sizeTable varianceOutcome varianceAnswer correlationCell anyLow clamped distanceOf distanceCell offDiagonal square between betweenCell wardF updateF pairBefore near better offer look scanRow scanFrom scanAll both movable moved movedAll merged step copied start stateAt mergeRows grow treeAt leaves seriatedCell minOf maxOf absOf clampOf root isqrt lt le eq isNan neg add sum sub mul div round units odd trailingZeros size ieee-span climb ofFields ofBits toBits
+unfolding distancesIn treeRows treeOrder correlationsOf hrpDistances treeDistances hrpRows hrpOrder hrpShares seriatedIn parityRoomLines parityJudgeTable hrpRiskLines parityTable parityOutcome first laid overLimit otherLength sizes tab grid sumTo sumOn sumRows anyTo range span isNone weightsIn factorOf sidesFactor halved bisected normal bisectionShares recip recipSum shares term varianceOf outside anyLowOf riskTable sizeTable varianceOutcome varianceAnswer correlationCell anyLow clamped distanceOf distanceCell offDiagonal square between betweenCell wardF updateF pairBefore near better offer look scanRow scanFrom scanAll both movable moved movedAll merged step copied start stateAt mergeRows grow treeAt leaves seriatedCell minOf maxOf absOf clampOf root isqrt lt le eq isNan neg add sum sub mul div round units odd trailingZeros size ieee-span climb ofFields ofBits toBits roomLines squareLines
 figures = refl

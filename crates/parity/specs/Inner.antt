@@ -26,6 +26,7 @@ pub record ParityReady (said : Outcome) (len n : ℕ) (room : ParityRoom) : Type
   pub sized : said ≡ outcome.Done → ParitySized len n room
 
 -- what the steps answer after that, and leave in the buffers where nothing is refused
-pub record ParityWorked (said : Outcome) (d : Distance) (cov : List Float) (n : ℕ) (room : ParityRoom) (r : Outcome) (rows order : List ℕ) (weights correlations distances scratch : List Float) : Type 0 where
+pub record ParityWorked (said : Outcome) (d : Distance) (cov : List Float) (n : ℕ) (room : ParityRoom) (r : Outcome)
+    (rows order : List ℕ) (weights correlations distances scratch : List Float) : Type 0 where
   pub answer : r ≡ andThen said (first (hrpRiskLines d cov n))
   pub filled : r ≡ outcome.Done → ParityLaid outcome.Done d cov n room rows order weights correlations distances scratch

@@ -20,8 +20,8 @@ use Rattle.clusters.specs.Shares.{Shares, isNone, weightsIn}
 use Rattle.bisection.specs.Bisection.{bisectionShares}
 -- the correlations, and what the tree is built on, are of the crate `arranging`; the rooms and their lines of `rooms`
 unfoldable pub use Rattle.arranging.specs.Arranging.{correlationsOf, treeDistances}
-pub use Rattle.rooms.specs.Rooms.{ParityRoom, parityRoom, ParityCleared}
-unfoldable pub use Rattle.rooms.specs.Rooms.{parityRoomLines, parityJudgeTable}
+pub use Rattle.rooms.specs.Rooms.{ParityRoom, ParityCleared}
+unfoldable pub use Rattle.rooms.specs.Rooms.{roomLines, parityRoomLines, squareLines, parityJudgeTable}
 
 -- ---- the steps
 
@@ -59,7 +59,8 @@ parityOutcome d cov rows w room = first (parityTable d cov rows w room)
 
 -- ---- the answer: what an outcome leaves in each lent buffer
 
-pub record ParityLaid (o : Outcome) (d : Distance) (cov : List Float) (n : ℕ) (room : ParityRoom) (rows order : List ℕ) (weights correlations distances scratch : List Float) : Type 0 where
+pub record ParityLaid (o : Outcome) (d : Distance) (cov : List Float) (n : ℕ) (room : ParityRoom)
+    (rows order : List ℕ) (weights correlations distances scratch : List Float) : Type 0 where
   pub rows-are : rows ≡ laid 0 o (room .rows) (hrpRows d cov n)
   pub order-is : order ≡ laid 0 o (room .order) (hrpOrder d cov n)
   pub weights-are : weights ≡ laid pz o (room .weights) (weightsIn (hrpShares d cov n))
@@ -68,6 +69,7 @@ pub record ParityLaid (o : Outcome) (d : Distance) (cov : List Float) (n : ℕ) 
   pub scratch-is : scratch ≡ zeros (room .scratch)
 
 -- what `allocate_covariance` returns, and its buffers
-pub record ParityAnswered (d : Distance) (cov : List Float) (rows-in w : ℕ) (room : ParityRoom) (r : Outcome) (rows order : List ℕ) (weights correlations distances scratch : List Float) : Type 0 where
+pub record ParityAnswered (d : Distance) (cov : List Float) (rows-in w : ℕ) (room : ParityRoom) (r : Outcome)
+    (rows order : List ℕ) (weights correlations distances scratch : List Float) : Type 0 where
   pub answer : r ≡ parityOutcome d cov rows-in w room
   pub buffers : ParityLaid (parityOutcome d cov rows-in w room) d cov w room rows order weights correlations distances scratch

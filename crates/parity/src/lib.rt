@@ -4,8 +4,6 @@ use distances::Measure;
 use linkage::Distance;
 use linkage::Linkage;
 use refusal::Outcome;
-pub use rooms::clear_all;
-pub use rooms::judge_rooms;
 ghost use lib.ListN.{length};
 ghost use Rattle.parity.specs.Parity.{ParityAnswered};
 ghost use Rattle.parity.specs.Inner.{ParityReady, ParityWorked};
@@ -120,7 +118,7 @@ pub fn allocate_covariance(
         scratch,
     );
     let Outcome::Done = said else {
-        clear_all(
+        rooms::clear_with_matrices(
             rows,
             order,
             weights,

@@ -1,4 +1,4 @@
--- What a call of HRP must have, on a covariance or on all that may be given: the rooms of its lent buffers, and the shapes of its matrices. Definitions only.
+-- The rooms of the buffers that both allocators are lent, their zeros, and what HRP has beside them; then what a call of HRP must have. Definitions only.
 use Prim.Native.Nat.{ℕ, _-_, _*_}
 use mathlib.Core.Path.{_≡_}
 use mathlib.Core.Bool.{not, _&&_}
@@ -12,7 +12,30 @@ use Rattle.lent.specs.Lent.{least-scratch, sizes}
 use Rattle.lent.specs.declared.Shape.{Shape}
 use Rattle.inputs.specs.Inputs.{absent, otherColumns, otherSize, matrixLines}
 
--- how many entries each lent buffer has
+-- how many entries each buffer has that both allocators are lent
+pub record Room : Type 0 where
+  pub rows : ℕ
+  pub order : ℕ
+  pub weights : ℕ
+  pub scratch : ℕ
+
+-- 11: "Answer buffers need 2(n − 1) numbers for rows, n for order, n for weights"; "scratch has under 8,192 doubles"
+unfoldable pub roomLines : ℕ → Room → List Line
+roomLines n room =
+    (ltb (room .rows) (2 * (n - 1)), ShortBuffer)
+    ∷ (ltb (room .order) n, ShortBuffer)
+    ∷ (ltb (room .weights) n, ShortBuffer)
+    ∷ (ltb (room .scratch) least-scratch, ShortBuffer)
+    ∷ []
+
+-- "leaves every lent answer and scratch entry zero"
+pub record Cleared (room : Room) (rows order : List ℕ) (weights scratch : List Float) : Type 0 where
+  pub rows-are : rows ≡ noughts (room .rows)
+  pub order-is : order ≡ noughts (room .order)
+  pub weights-are : weights ≡ zeros (room .weights)
+  pub scratch-is : scratch ≡ zeros (room .scratch)
+
+-- HRP is lent two more, for its seriated matrices
 pub record ParityRoom : Type 0 where
   pub rows : ℕ
   pub order : ℕ
@@ -21,24 +44,29 @@ pub record ParityRoom : Type 0 where
   pub distances : ℕ
   pub scratch : ℕ
 
-abbrev pub parityRoom : ℕ → ℕ → ℕ → ℕ → ℕ → ℕ → ParityRoom
-parityRoom a b c d e f = record { rows = a; order = b; weights = c; correlations = d; distances = e; scratch = f }
+abbrev pub sharedRoom : ParityRoom → Room
+sharedRoom room = record { rows = room .rows; order = room .order; weights = room .weights; scratch = room .scratch }
 
--- 11: "Answer buffers need 2(n − 1) numbers for rows, n for order, n for weights, n² for each seriated matrix"; "scratch has under 8,192 doubles"
+-- 11: those, and "n² for each seriated matrix"
 unfoldable pub parityRoomLines : ℕ → ParityRoom → List Line
+unfolding roomLines
 parityRoomLines n room =
-    (ltb (room .rows) (2 * (n - 1)), ShortBuffer)
-    ∷ (ltb (room .order) n, ShortBuffer)
-    ∷ (ltb (room .weights) n, ShortBuffer)
-    ∷ (ltb (room .correlations) (n * n), ShortBuffer)
-    ∷ (ltb (room .distances) (n * n), ShortBuffer)
-    ∷ (ltb (room .scratch) least-scratch, ShortBuffer)
-    ∷ []
+    roomLines n (sharedRoom room)
+    ++ ((ltb (room .correlations) (n * n), ShortBuffer) ∷ (ltb (room .distances) (n * n), ShortBuffer) ∷ [])
 
--- on a covariance, the lines before those of the risk: 9, 10; 11; no assets 1; covariance size 3
+pub record ParityCleared (room : ParityRoom) (rows order : List ℕ) (weights correlations distances scratch : List Float) : Type 0 where
+  pub shared : Cleared (sharedRoom room) rows order weights scratch
+  pub correlations-are : correlations ≡ zeros (room .correlations)
+  pub distances-are : distances ≡ zeros (room .distances)
+
+-- "no assets 1; covariance size 3", of a covariance given by itself
+unfoldable pub squareLines : ℕ → ℕ → List Line
+squareLines rows w = (eqb w 0, NoData) ∷ (not (eqb rows w), DimensionMismatch) ∷ []
+
+-- on a covariance, the lines of HRP before those of the risk: 9, 10; 11; 1, 3
 unfoldable pub parityJudgeTable : ℕ → ℕ → ℕ → ParityRoom → List Line
-unfolding parityRoomLines
-parityJudgeTable len rows w room = sizes len rows w ++ (parityRoomLines w room ++ ((eqb w 0, NoData) ∷ (not (eqb rows w), DimensionMismatch) ∷ []))
+unfolding parityRoomLines squareLines
+parityJudgeTable len rows w room = sizes len rows w ++ (parityRoomLines w room ++ squareLines rows w)
 
 -- "no matrix 1; no assets 1; given returns' columns 3; else, only without covariance, prices' columns 3"; the shapes are those of prices, returns and covariance of n assets
 abbrev pub shapeLines : ℕ → Shape → Shape → Shape → List Line
@@ -57,12 +85,3 @@ shapesJudged n p r c = shapeLines n p r c ++ ((otherSize c n, DimensionMismatch)
 unfoldable pub hrpJudgeTable : ℕ → Shape → ℕ → Shape → ℕ → Shape → ℕ → ParityRoom → List Line
 unfolding shapesJudged parityRoomLines
 hrpJudgeTable n p pl r rl c cl room = matrixLines n p pl r rl c cl ++ (parityRoomLines n room ++ shapesJudged n p r c)
-
--- "leaves every lent answer and scratch entry zero"
-pub record ParityCleared (room : ParityRoom) (rows order : List ℕ) (weights correlations distances scratch : List Float) : Type 0 where
-  pub rows-are : rows ≡ noughts (room .rows)
-  pub order-is : order ≡ noughts (room .order)
-  pub weights-are : weights ≡ zeros (room .weights)
-  pub correlations-are : correlations ≡ zeros (room .correlations)
-  pub distances-are : distances ≡ zeros (room .distances)
-  pub scratch-is : scratch ≡ zeros (room .scratch)

@@ -1,19 +1,32 @@
-// What a call of HRP must have: the rooms of its lent buffers and the shapes of its matrices; and the zeros of the buffers.
+// The rooms of the buffers that an allocator is lent, and their zeros; and what a call of HRP must have.
 
 use lent::Shape;
 use refusal::Outcome;
 use refusal::Refusal;
 ghost use mathlib.Core.Path.{_≡_};
-ghost use mathlib.Core.Bool.{not};
-ghost use lib.Dec.{eqb};
 ghost use lib.ListN.{length};
-ghost use Rattle.refusal.specs.Table.{first, orElse};
-ghost use Rattle.refusal.specs.declared.Refusal.the-variants.{NoData, DimensionMismatch};
-ghost use Rattle.refusal.specs.declared.Outcome.the-variants.{Done};
-ghost use Rattle.rooms.specs.Rooms.{parityRoomLines, parityJudgeTable, shapesJudged, hrpJudgeTable, ParityCleared};
+ghost use Rattle.refusal.specs.Table.{first};
+ghost use Rattle.rooms.specs.Rooms.{roomLines, Cleared, parityRoomLines, ParityCleared, squareLines, parityJudgeTable, shapesJudged, hrpJudgeTable};
 
 // Every entry of every lent buffer is zero.
-pub fn clear_all(
+pub fn clear_all(rows: &mut [usize], order: &mut [usize], weights: &mut [f64], scratch: &mut [f64])
+    ensures { λ _. ⌜ Cleared
+        (record {
+          rows = length (now (rows .entry));
+          order = length (now (order .entry));
+          weights = length (now (weights .entry));
+          scratch = length (now (scratch .entry));
+        })
+        (now (rows .exit)) (now (order .exit)) (now (weights .exit)) (now (scratch .exit)) ⌝ }
+{
+    lent::clear_numbers(rows);
+    lent::clear_numbers(order);
+    lent::clear(weights);
+    lent::clear(scratch); // nothing of an earlier account, and nothing that was worked out in it
+}
+
+// The same of HRP's, with its two matrices.
+pub fn clear_with_matrices(
     rows: &mut [usize],
     order: &mut [usize],
     weights: &mut [f64],
@@ -32,16 +45,27 @@ pub fn clear_all(
         })
         (now (rows .exit)) (now (order .exit)) (now (weights .exit)) (now (correlations .exit)) (now (distances .exit)) (now (scratch .exit)) ⌝ }
 {
-    lent::clear_numbers(rows);
-    lent::clear_numbers(order);
-    lent::clear(weights);
+    clear_all(rows, order, weights, scratch);
     lent::clear(correlations);
     lent::clear(distances);
-    lent::clear(scratch); // nothing of an earlier account
 }
 
 // What the sizes of the lent buffers refuse.
-pub fn judge_rooms(
+pub fn judge_rooms(n: usize, rows: usize, order: usize, weights: usize, scratch: usize) -> Outcome
+    ensures { λ r. ⌜ r ≡ first (roomLines n (record { rows = rows; order = order; weights = weights; scratch = scratch })) ⌝ }
+{
+    let o = refusal::refuse(
+        scratch < lent::LEAST_SCRATCH,
+        Refusal::ShortBuffer,
+        Outcome::Done,
+    );
+    let o = refusal::refuse(weights < n, Refusal::ShortBuffer, o);
+    let o = refusal::refuse(order < n, Refusal::ShortBuffer, o);
+    refusal::refuse(lent::lacks_rows(rows, n), Refusal::ShortBuffer, o)
+}
+
+// The same of HRP's, with its two matrices.
+pub fn judge_with_matrices(
     n: usize,
     rows: usize,
     order: usize,
@@ -53,21 +77,19 @@ pub fn judge_rooms(
     ensures { λ r. ⌜ r ≡ first (parityRoomLines n
         (record { rows = rows; order = order; weights = weights; correlations = correlations; distances = distances; scratch = scratch })) ⌝ }
 {
+    let shared = judge_rooms(n, rows, order, weights, scratch);
     let o = refusal::refuse(
-        scratch < lent::LEAST_SCRATCH,
+        lent::lacks_cells(distances, n),
         Refusal::ShortBuffer,
         Outcome::Done,
     );
-    let o = refusal::refuse(lent::lacks_cells(distances, n), Refusal::ShortBuffer, o);
     let o = refusal::refuse(lent::lacks_cells(correlations, n), Refusal::ShortBuffer, o);
-    let o = refusal::refuse(weights < n, Refusal::ShortBuffer, o);
-    let o = refusal::refuse(order < n, Refusal::ShortBuffer, o);
-    refusal::refuse(lent::lacks_rows(rows, n), Refusal::ShortBuffer, o)
+    refusal::and_then(shared, o)
 }
 
 // No assets, then another size than theirs.
-fn judge_shape(rows_in: usize, columns: usize) -> Outcome
-    ensures { λ r. ⌜ r ≡ orElse (eqb columns 0) NoData (orElse (not (eqb «rows_in» columns)) DimensionMismatch Done) ⌝ }
+pub fn judge_square(rows_in: usize, columns: usize) -> Outcome
+    ensures { λ r. ⌜ r ≡ first (squareLines «rows_in» columns) ⌝ }
 {
     let o = refusal::refuse(
         rows_in != columns,
@@ -93,7 +115,7 @@ pub fn judge_covariance(
         (record { rows = rows; order = order; weights = weights; correlations = correlations; distances = distances; scratch = scratch })) ⌝ }
 {
     let sized = lent::sized(len, rows_in, columns);
-    let rooms = judge_rooms(
+    let rooms = judge_with_matrices(
         columns,
         rows,
         order,
@@ -102,7 +124,7 @@ pub fn judge_covariance(
         distances,
         scratch,
     );
-    let shape = judge_shape(rows_in, columns);
+    let shape = judge_square(rows_in, columns);
     refusal::and_then(sized, refusal::and_then(rooms, shape))
 }
 
@@ -162,7 +184,7 @@ pub fn judge(
         covariance,
         covariance_len,
     );
-    let rooms = judge_rooms(n, rows, order, weights, correlations, distances, scratch);
+    let rooms = judge_with_matrices(n, rows, order, weights, correlations, distances, scratch);
     let shapes = judge_shapes(n, prices, returns, covariance);
     refusal::and_then(matrices, refusal::and_then(rooms, shapes))
 }

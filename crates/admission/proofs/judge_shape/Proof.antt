@@ -1,8 +1,7 @@
 -- `admission::judge_shape` meets its contract. Assumes nothing.
 use borrow.Author.Needs.{needs}
-use Rattle.refusal.proofs.Tables.{table, table-end}
 use Rattle.sharing.specs.Down.{otherRows}
-use Rattle.admission.specs.Admission.{hierarchyShapeLines}
+use Rattle.admission.proofs.Lines.{shape-said}
 use Rattle.admission.proofs.judge_shape.Statement.{statement}
 use Rattle.admission.proofs.judge_shape.Tie as tie
 
@@ -18,15 +17,18 @@ both-requires-2 c κs = search needs
 refuse-requires : tie.Need-refuse-requires
 refuse-requires c κs = search needs
 
-refuse-requires-2 : tie.Need-refuse-requires-2
-refuse-requires-2 c κs = search needs
+judge-square-requires : tie.Need-judge-square-requires
+judge-square-requires c κs = search needs
 
-refuse-requires-3 : tie.Need-refuse-requires-3
-refuse-requires-3 c κs = search needs
+and-then-requires : tie.Need-and-then-requires
+and-then-requires c κs = search needs
 
 returns : tie.Need-returns
-unfolding hierarchyShapeLines otherRows
-returns c e xs q g k = simp (table, table-end) (rw (c .refuse3 .ensures, c .before .refuse2 .ensures, c .before .before .refuse .ensures, c .before .before .before .both2 .ensures, c .before .before .before .before .both .ensures, c .before .before .before .before .before .is-tail-risk .ensures))
+unfolding otherRows
+returns c e xs q g k =
+    shape-said _ _ _ _ _ _ (c .before .judge-square .ensures)
+    (rw (c .before .before .refuse .ensures, c .before .before .before .both2 .ensures, c .before .before .before .before .both .ensures, c .before .before .before .before .before .is-tail-risk .ensures))
+    (c .and-then .ensures)
 
 pub judge-shape-spec : {M : Type 1} → statement M
 judge-shape-spec =
@@ -36,6 +38,6 @@ judge-shape-spec =
     both-requires
     both-requires-2
     refuse-requires
-    refuse-requires-2
-    refuse-requires-3
+    judge-square-requires
+    and-then-requires
     returns)

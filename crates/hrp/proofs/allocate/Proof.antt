@@ -30,32 +30,32 @@ enum-told c = search needs
 enum-told-2 : tie.Need-enum-told-2
 enum-told-2 c = search needs
 
-clear-all-requires : tie.Need-clear-all-requires
-clear-all-requires c κs = search needs
+clear-with-matrices-requires : tie.Need-clear-with-matrices-requires
+clear-with-matrices-requires c κs = search needs
 
 same-length : tie.Need-same-length
-same-length c = c .before .before .before .before .before .before .before .before .before .before .before .before .clear-all .kept .0
+same-length c = c .before .before .before .before .before .before .before .before .before .before .before .before .clear-with-matrices .kept .0
 
 same-length-2 : tie.Need-same-length-2
-same-length-2 c = c .before .before .before .before .before .before .before .before .before .before .before .before .clear-all .kept .1 .0
+same-length-2 c = c .before .before .before .before .before .before .before .before .before .before .before .before .clear-with-matrices .kept .1 .0
 
 same-length-3 : tie.Need-same-length-3
-same-length-3 c = c .before .before .before .before .before .before .before .before .before .before .before .before .clear-all .kept .1 .1 .0
+same-length-3 c = c .before .before .before .before .before .before .before .before .before .before .before .before .clear-with-matrices .kept .1 .1 .0
 
 same-length-4 : tie.Need-same-length-4
-same-length-4 c = c .before .before .before .before .before .before .before .before .before .before .before .before .clear-all .kept .1 .1 .1 .0
+same-length-4 c = c .before .before .before .before .before .before .before .before .before .before .before .before .clear-with-matrices .kept .1 .1 .1 .0
 
 same-length-5 : tie.Need-same-length-5
-same-length-5 c = c .before .before .before .before .before .before .before .before .before .before .before .before .clear-all .kept .1 .1 .1 .1 .0
+same-length-5 c = c .before .before .before .before .before .before .before .before .before .before .before .before .clear-with-matrices .kept .1 .1 .1 .1 .0
 
 same-length-6 : tie.Need-same-length-6
-same-length-6 c = c .before .before .before .before .before .before .before .before .before .before .before .before .clear-all .kept .1 .1 .1 .1 .1 .0
+same-length-6 c = c .before .before .before .before .before .before .before .before .before .before .before .before .clear-with-matrices .kept .1 .1 .1 .1 .1 .0
 
 returns : tie.Need-returns
 returns c =
     let a = c .before .before .before .before .before .before .before .before .before .before .before .before .before .before .before .before .before .before .before .before .before .before .before .before .before .before .before .before .before .before .before .before .before .before .before .before .args in
     let j : HrpJob = record { assets = a .assets; prices = a .prices .now; prices-shape = a .prices-shape; returns = a .returns .now; returns-shape = a .returns-shape; covariance = a .covariance .now; covariance-shape = a .covariance-shape; resample-by = a .resample-by .now; use-shrinkage = a .use-shrinkage; distance = a .distance } in
-    ends-refused j _ (c .before .before .before .before .before .before .before .before .before .before .before .before .before .before .before .before .before .before .before .before .before .before .before .before .before .freq-step .ensures) _ _ (c .before .before .before .before .before .before .before .before .before .before .before .before .before .before .before .before .before .before .before .before .before .before .before .before .judge .ensures) _ _ (c .before .before .before .before .before .before .before .before .before .before .before .before .before .before .before .before .before .before .before .before .before .before .gather .ensures) _ _ _ _ _ _ _ (c .before .before .before .before .before .before .before .before .before .before .before .before .before .before .before .before .before .before .before .enum-told2 .given .1) (c .before .before .before .before .before .before .before .before .before .before .before .before .clear-all .ensures)
+    ends-refused j _ (c .before .before .before .before .before .before .before .before .before .before .before .before .before .before .before .before .before .before .before .before .before .before .before .before .before .freq-step .ensures) _ _ (c .before .before .before .before .before .before .before .before .before .before .before .before .before .before .before .before .before .before .before .before .before .before .before .before .judge .ensures) _ _ (c .before .before .before .before .before .before .before .before .before .before .before .before .before .before .before .before .before .before .before .before .before .before .gather .ensures) _ _ _ _ _ _ _ (c .before .before .before .before .before .before .before .before .before .before .before .before .before .before .before .before .before .before .before .enum-told2 .given .1) (c .before .before .before .before .before .before .before .before .before .before .before .before .clear-with-matrices .ensures)
 
 mul-m : tie.Need-mul-m
 mul-m c =
@@ -112,7 +112,7 @@ allocate-spec =
     gather-requires
     enum-told
     enum-told-2
-    clear-all-requires
+    clear-with-matrices-requires
     same-length
     same-length-2
     same-length-3
