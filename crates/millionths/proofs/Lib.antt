@@ -1,6 +1,3 @@
-pub mod Pattern
-pub mod Whole
 pub mod Lists
-pub mod Meaning
+pub mod AddUp
 pub mod Figures
-pub mod Tellings

@@ -1,125 +1,90 @@
-// Weights in millionths, by integer arithmetic on their bits.
+// Weights in millionths that total 1,000,000: the whole parts, and one more each for the largest fractions left over.
 
 use refusal::Outcome;
 use refusal::Refusal;
 ghost use mathlib.Core.Path.{_≡_};
-ghost use Prim.Native.Nat.{_*_, _/_, _^_, _≤_, _<_};
-ghost use lib.ListN.{length};
-ghost use Rattle.arithmetic.specs.Inner.{worth};
-ghost use Rattle.lent.specs.Grid.{over};
-ghost use Rattle.fields.specs.Split.{all};
-ghost use Rattle.millionths.specs.Millionths.{millionthsOf, partOf, inRange, millionthsOutcome, millionthsIn, millionthsLaid};
+ghost use Prim.Native.Nat.{_+_, _-_};
+ghost use lib.Dec.{ltb};
+ghost use lib.ListN.{length, getD};
+ghost use Rattle.lent.specs.Count.{one, upto};
+ghost use Rattle.lent.specs.Grid.{tab, over};
+ghost use Rattle.millionths.specs.Millionths.{millionthsOutcome, millionthsLaid};
+ghost use Rattle.millionths.specs.Inner.{Wholes, judged, Served};
 
-// A weight's millionths, or the refusal.
-pub enum Parts {
-    Of(usize),
-    Refused(Refusal),
-}
+const MILLION: usize = 1000000;
 
-// m * 1,000,000 / 2^32, which has up to 73 bits before the division: m is cut into 21 and 32 bits.
-fn scaled(m: u64) -> u64
-    requires { ⌜ m < 2 ^ 53 ⌝ }
-    ensures { λ r. ⌜ r ≡ m * 1000000 / 2 ^ 32 ⌝ }
+// The whole parts, added up.
+fn total(wholes: &[usize]) -> usize
+    requires { ⌜ Wholes (now wholes) ⌝ }
+    ensures { λ r. ⌜ r ≡ upto (λ i. getD (now (wholes .entry)) i 0) (length (now (wholes .entry))) ⌝ }
 {
-    m / 0x1_0000_0000 * 1000000 + m % 0x1_0000_0000 * 1000000 / 0x1_0000_0000
-}
-
-// The millionths of a double from 0 to 1, by its pattern.
-fn of_pattern(b: u64) -> u64
-    requires { ⌜ b ≤ 1023 * 2 ^ 52 ⌝ }
-    ensures { λ r. ⌜ r ≡ worth b * 1000000 / 2 ^ 1074 ⌝ }
-{
-    let f = b / 0x10_0000_0000_0000;
-    let t = b % 0x10_0000_0000_0000;
-    if f == 0 {
-        return 0;
-    }
-    let s = 1043 - f;
-    if s > 63 {
-        return 0;
-    }
-    scaled(t + 0x10_0000_0000_0000) >> s
-}
-
-// A weight in millionths. A NaN's bits are above those of 1, and so are those of every weight below 0 and of −0.
-pub fn millionths(w: f64) -> Parts
-    ensures { λ r. ⌜ r ≡ millionthsOf w ⌝ }
-{
-    let b = arithmetic::to_bits(w);
-    if b == 0x8000_0000_0000_0000 {
-        return Parts::Of(0);
-    }
-    if b > 0x3ff0_0000_0000_0000 {
-        return Parts::Refused(Refusal::WeightOutOfRange);
-    }
-    Parts::Of(of_pattern(b) as usize)
-}
-
-// The millionths of a weight that is not refused, else 0.
-fn part(w: f64) -> usize
-    ensures { λ r. ⌜ r ≡ partOf (millionthsOf w) ⌝ }
-{
-    match millionths(w) {
-        Parts::Of(m) => m,
-        Parts::Refused(_) => 0,
-    }
-}
-
-fn in_range(w: f64) -> bool
-    ensures { λ r. ⌜ r ≡ inRange w ⌝ }
-{
-    match millionths(w) {
-        Parts::Of(_) => true,
-        Parts::Refused(_) => false,
-    }
-}
-
-fn all_in_range(weights: &[f64]) -> bool
-    ensures { λ r. ⌜ r ≡ all inRange (now (weights .entry)) ⌝ }
-{
+    let mut sum: usize = 0;
     let mut i = 0;
-    while i < weights.len() {
-        if !in_range(weights[i]) {
-            return false;
-        }
+    while i < wholes.len() {
+        sum += wholes[i];
         i += 1;
     }
-    true
+    sum
 }
 
-fn judge(weights: &[f64], room: usize) -> Outcome
-    ensures { λ r. ⌜ r ≡ millionthsOutcome (now (weights .entry)) room ⌝ }
+// What a total misses of 1,000,000.
+fn lacking(total: usize) -> usize
+    ensures { λ r. ⌜ r ≡ 1000000 - total ⌝ }
 {
-    let ranged = refusal::refuse(
-        !all_in_range(weights),
-        Refusal::WeightOutOfRange,
-        Outcome::Done,
-    );
-    let roomy = refusal::refuse(room < weights.len(), Refusal::ShortBuffer, ranged);
-    refusal::refuse(lent::MOST_ASSETS < weights.len(), Refusal::OverLimit, roomy)
+    if total > MILLION {
+        return 0;
+    }
+    MILLION - total
 }
 
-fn fill(weights: &[f64], out: &mut [usize])
-    requires { ⌜ length (now weights) ≤ length (now out) ⌝ }
-    ensures { λ _. ⌜ now (out .exit) ≡ over (millionthsIn (now (weights .entry))) (now (out .entry)) ⌝ }
+// 9, 11, what was said of the weights, then 18.
+fn judge(ranged: Outcome, total: usize, n: usize, room: usize) -> Outcome
+    ensures { λ r. ⌜ r ≡ judged ranged total n room ⌝ }
+{
+    let off = refusal::either(MILLION < total, n < lacking(total));
+    let reached = refusal::refuse(off, Refusal::TotalOutOfReach, Outcome::Done);
+    let parted = refusal::and_then(ranged, reached);
+    let roomy = refusal::refuse(room < n, Refusal::ShortBuffer, parted);
+    refusal::refuse(lent::MOST_ASSETS < n, Refusal::OverLimit, roomy)
+}
+
+// One more for whoever is due.
+fn one_more(due: bool) -> usize
+    ensures { λ r. ⌜ r ≡ one due ⌝ }
+{
+    if due {
+        return 1;
+    }
+    0
+}
+
+// Who has fewer than the missing amount before them is due.
+fn fill(wholes: &[usize], ranks: &[usize], n: usize, missing: usize, out: &mut [usize])
+    requires { ⌜ Served (now wholes) (now ranks) n (length (now out)) ⌝ }
+    ensures { λ _. ⌜ now (out .exit) ≡ over (tab n (λ i. getD (now (wholes .entry)) i 0 + one (ltb (getD (now (ranks .entry)) i 0) missing))) (now (out .entry)) ⌝ }
 {
     let mut i = 0;
-    while i < weights.len() {
-        out[i] = part(weights[i]);
+    while i < n {
+        out[i] = wholes[i] + one_more(ranks[i] < missing);
         i += 1;
     }
 }
 
-// Each weight in millionths.
+// Each weight in millionths, which total 1,000,000.
 pub fn weights_in_millionths(weights: &[f64], out: &mut [usize]) -> Outcome
     ensures { λ r. ⌜ r ≡ millionthsOutcome (now (weights .entry)) (length (now (out .entry))) ⌝ }
     ensures { λ r. ⌜ now (out .exit) ≡ millionthsLaid (now (weights .entry)) (length (now (out .entry))) ⌝ }
 {
-    let said = judge(weights, out.len());
+    let n = weights.len();
+    let mut wholes = [0usize; 64];
+    let mut ranks = [0usize; 64];
+    let ranged = fractions::rank_fractions(weights, &mut wholes, &mut ranks);
+    let given = total(&wholes);
+    let said = judge(ranged, given, n, out.len());
     lent::clear_numbers_from(out, 0);
     let Outcome::Done = said else {
         return said;
     };
-    fill(weights, out);
+    fill(&wholes, &ranks, n, lacking(given), out);
     said
 }

@@ -1,4 +1,4 @@
--- `millionths::all_in_range` meets its contract. What is left from place i on decides. Assumes nothing.
+-- `fractions::all_in_range` meets its contract. What is left from place i on decides. Assumes nothing.
 use Prim.Native.Nat.{_-_, _≤_}
 use mathlib.Core.Path.{_≡_, refl, sym, _∙_}
 use native.Mathlib.Omega.{arith}
@@ -7,10 +7,10 @@ use borrow.Author.Tests.{not-true, not-false}
 use lib.Ieee.{nan}
 use lib.ListN.{length, drop}
 use Rattle.fields.specs.Split.{all}
-use Rattle.millionths.specs.Millionths.{inRange}
+use Rattle.fractions.specs.Fractions.{inRange}
 use Rattle.fields.proofs.Every.{all-end, all-yes, all-no}
-use Rattle.millionths.proofs.all_in_range.Statement.{statement}
-use Rattle.millionths.proofs.all_in_range.Tie as tie
+use Rattle.fractions.proofs.all_in_range.Statement.{statement}
+use Rattle.fractions.proofs.all_in_range.Tie as tie
 
 abbrev Inv-loop : tie.InvT-loop
 Inv-loop weights i₀ i = (i ≤ length weights) × (all inRange weights ≡ all inRange (drop i weights))
