@@ -23,7 +23,8 @@ use Rattle.tree.proofs.Rows.{is-order}
 use Rattle.reading.specs.Reading.{assets, nameOf, startOf, startsIn, textLines, readTable, readOutcome, jobIn}
 use Rattle.reading.proofs.Answer.{outcome-done}
 use Rattle.reading.proofs.Accepted.{Accepted, accepted, name-short, name-at, start-kept}
-use Rattle.listing.specs.Listing.{listing, nameIn, isShort, sheetLines, rangeTable, sheetOutcome, ListingMade}
+use Rattle.millionths.specs.Millionths.{millionthsLines}
+use Rattle.listing.specs.Listing.{listing, nameIn, isShort, sheetLines, sheetOutcome, ListingMade}
 use Rattle.listing.specs.declared.Listed.{Listed}
 use Rattle.listing.specs.declared.Listed.the-variants as listed
 use Rattle.listing.proofs.Lines.{listing-ext}
@@ -41,7 +42,7 @@ module _ (text : List ℕ) (room : ℕ) where
   unfolding textTable
   table-is = refl
 
-  job-is : jobOutcome text room ≡ andThen (first lines) (andThen (allocatorSays text (jobIn text)) (first (rangeTable (jobWeights text (jobIn text)))))
+  job-is : jobOutcome text room ≡ andThen (first lines) (andThen (allocatorSays text (jobIn text)) (first (millionthsLines (jobWeights text (jobIn text)))))
   unfolding jobOutcome
   job-is = refl
 
@@ -62,8 +63,8 @@ module _ (text : List ℕ) (room : ℕ) (h : 8192 ≤ room) where
       ∙ sym (table (ltb 65536 (length text)) OverLimit (textLines text))
       ∙ sym (read-is text)
 
-  -- what was read, then what the allocator says, then 13
-  job-read : readOutcome text 4096 64 ≡ Done → jobOutcome text room ≡ andThen (allocatorSays text (jobIn text)) (first (rangeTable (jobWeights text (jobIn text))))
+  -- what was read, then what the allocator says, then 13 and 18
+  job-read : readOutcome text 4096 64 ≡ Done → jobOutcome text room ≡ andThen (allocatorSays text (jobIn text)) (first (millionthsLines (jobWeights text (jobIn text))))
   job-read e = job-is text room ∙ then-done (first (lines text room)) _ (table-said ∙ e)
 
   pub job-unread : (k : Refusal) → readOutcome text 4096 64 ≡ Refused k → jobOutcome text room ≡ Refused k
@@ -95,6 +96,10 @@ module _ (text : List ℕ) (room : ℕ) (h : room < 8192) where
 -- a text whose listing is accepted has an allocator that accepts it
 pub allocator-done : (text : List ℕ) (room : ℕ) → jobOutcome text room ≡ Done → allocatorSays text (jobIn text) ≡ Done
 allocator-done text room e = both-done _ _ (both-done (first (lines text room)) _ (sym (job-is text room) ∙ e) .1) .0
+
+-- and weights that 13 and 18 let pass
+pub weights-done : (text : List ℕ) (room : ℕ) → jobOutcome text room ≡ Done → first (millionthsLines (jobWeights text (jobIn text))) ≡ Done
+weights-done text room e = both-done _ _ (both-done (first (lines text room)) _ (sym (job-is text room) ∙ e) .1) .1
 
 -- every entry passes
 every : {A : Type 0} (f : A → Bool) (l : List A) (d : A) → ((i : ℕ) → i < length l → f (getD l i d) ≡ true) → all f l ≡ true
@@ -134,8 +139,8 @@ module _ (text starts : List ℕ) (done : readOutcome text 4096 64 ≡ Done) (pl
     abbrev os : List ℕ
     os = take (length starts) order
 
-    job-told : jobOutcome text room ≡ andThen said (first (rangeTable (jobWeights text (jobIn text))))
-    job-told = job-read text room h done ∙ ap (λ (s : Outcome). andThen s (first (rangeTable (jobWeights text (jobIn text))))) (sym (p .is))
+    job-told : jobOutcome text room ≡ andThen said (first (millionthsLines (jobWeights text (jobIn text))))
+    job-told = job-read text room h done ∙ ap (λ (s : Outcome). andThen s (first (millionthsLines (jobWeights text (jobIn text))))) (sym (p .is))
 
     pub ends-refused : (k : Refusal) → said ≡ Refused k → (out : List ℕ) → out ≡ noughts room → Told text room (listed.Refused k) out
     ends-refused k e out z = told-refused text room k out (job-told ∙ then-refused said _ k e) z
@@ -166,7 +171,7 @@ module _ (text starts : List ℕ) (done : readOutcome text 4096 64 ≡ Done) (pl
 
       sheet-is : sheetOutcome text starts ws os room ≡ jobOutcome text room
       unfolding sheetOutcome
-      sheet-is = then-done _ _ passed ∙ ap (λ (x : List Float). first (rangeTable x)) ws-are ∙ sym (job-told ∙ then-done said _ d)
+      sheet-is = then-done _ _ passed ∙ ap (λ (x : List Float). first (millionthsLines x)) ws-are ∙ sym (job-told ∙ then-done said _ d)
 
       listing-is : listing (nameIn text starts) ws os ≡ listingOf text
       unfolding listingOf

@@ -34,8 +34,10 @@ use Rattle.distances.specs.declared.Measure.the-variants as measure
 use Rattle.arranging.specs.Arranging.{correlationsOf, distancesIn, treeRows, treeOrder}
 use Rattle.sharing.proofs.Judged.{shares-length}
 use Rattle.parity.specs.Parity as parity
+use Rattle.hrp.specs.Inner.{hrpJob}
 use Rattle.hrp.specs.Hrp as hrp
 use Rattle.hierarchy.specs.Hierarchy as hierarchy
+use Rattle.hcaa.specs.Inner.{hcaaJob}
 use Rattle.hcaa.specs.Hcaa as hcaa
 use Rattle.hcaa.proofs.Equal.{allocated}
 use Rattle.equal.specs.Equal.{EqualShares}
@@ -47,8 +49,9 @@ use Rattle.reading.specs.declared.Reading.the-variants as reading
 use Rattle.reading.proofs.Accepted.{accepted, Hrp, Hcaa, read-hrp, read-hcaa, read-refused}
 use Rattle.job.specs.Job.{metricIn, clustersIn, confidence, hcaaJobIn, roomOfHrp, roomOfHcaa, allocatorSays, jobWeights, jobOrder, jobOutcome, TextListed}
 use Rattle.listing.specs.declared.Listed.{Listed}
+use Rattle.millionths.proofs.AddUp.{adds-up}
 use Rattle.job.specs.Inner.{Read, Answer, Allotted, Told}
-use Rattle.job.proofs.Ends.{counted, allocator-done}
+use Rattle.job.proofs.Ends.{counted, allocator-done, weights-done}
 
 -- ---- what was read
 
@@ -144,7 +147,7 @@ module _ (text : List ℕ) (n : ℕ) (q : n ≡ assets text) (few : n ≤ 64) (s
 -- ---- HRP's
 
 abbrev hrp-call : ℕ → List Float → Distance → hrp.HrpJob
-hrp-call n cov d = hrp.hrpJob n [] Absent [] Absent cov (Of n n) [] false d
+hrp-call n cov d = hrpJob n [] Absent [] Absent cov (Of n n) [] false d
 
 hrp-says : (text : List ℕ) (n : ℕ) (d : Distance) → allocatorSays text (reading.Hrp n d) ≡ hrp.hrpOutcome (hrp-call (assets text) (covarianceIn text) d) roomOfHrp
 unfolding allocatorSays
@@ -214,7 +217,7 @@ hrp-allotted text starts cov d p room same said rows order weights correlations 
 -- ---- HCAA's
 
 abbrev hcaa-call : ℕ → List Float → List ℕ → Clusters → Linkage → Distance → hcaa.HcaaJob
-hcaa-call n cov m k l d = hcaa.hcaaJob n [] Absent [] Absent cov (Of n n) [] false m [] confidence k [] d l
+hcaa-call n cov m k l d = hcaaJob n [] Absent [] Absent cov (Of n n) [] false m [] confidence k [] d l
 
 abbrev hcaa-text : List ℕ → Linkage → Distance → hcaa.HcaaJob
 hcaa-text text l d = hcaa-call (assets text) (covarianceIn text) (metricIn text) (clustersIn text) l d
@@ -259,7 +262,7 @@ module _ (n : ℕ) (cov : List Float) (l : Linkage) (d : Distance) where
     unfolding hcaa.hcaaOutcome hcaa.hcaaTable hcaa.nameLines hcaa.namesJudged hcaa.hcaaCovariance hcaa.hcaaCovarianceBy hierarchy.shareLines hierarchy.hcaaRiskLines
     hcaa-done e =
         let a = parts-done (matrixLines n Absent 0 Absent 0 (Of n n) (length cov)) _ e in
-        let b = parts-done (hierarchy.hierarchyRoomLines n roomOfHcaa) _ (a .1) in
+        let b = parts-done (hierarchy.roomLines n roomOfHcaa) _ (a .1) in
         let s = parts-done (hcaa.nameLines one) _ (b .1) in
         let t = parts-done (hcaa.matrixRules one) _ (s .1) in
         let u = parts-done (hcaa.sharpeLines one) _ (t .1) in
@@ -268,7 +271,7 @@ module _ (n : ℕ) (cov : List Float) (l : Linkage) (d : Distance) where
 
 pub hcaa-allotted : (text starts : List ℕ) (cov : List Float) (l : Linkage) (d : Distance) → Read text (reading.Hcaa (length starts) l d) cov starts
     → (m : List ℕ) (k : Clusters) → m ≡ metricIn text → k ≡ clustersIn text
-    → (room : hierarchy.HierarchyRoom) → room ≡ roomOfHcaa → (said : Outcome) (rows order : List ℕ) (weights scratch : List Float)
+    → (room : hierarchy.Room) → room ≡ roomOfHcaa → (said : Outcome) (rows order : List ℕ) (weights scratch : List Float)
     → hcaa.HcaaAllocated (hcaa-call (length starts) cov m k l d) room said rows order weights scratch → length weights ≡ 64 → length order ≡ 64
     → Allotted text starts weights order said
 hcaa-allotted text starts cov l d p m k f c room same said rows order weights scratch z u v =
@@ -296,7 +299,7 @@ hcaa-allotted text starts cov l d p m k f c room same said rows order weights sc
 -- ---- demand 3
 
 -- buffers as an accepted job leaves them
-laid-out : (j : hcaa.HcaaJob) (room : hierarchy.HierarchyRoom) → hcaa.hcaaOutcome j room ≡ outcome.Done
+laid-out : (j : hcaa.HcaaJob) (room : hierarchy.Room) → hcaa.hcaaOutcome j room ≡ outcome.Done
     → hcaa.HcaaAllocated j room outcome.Done
     (laid 0 (hcaa.hcaaOutcome j room) (room .rows) (hierarchy.hcaaRows (j .distance) (j .linkage) (hcaa.hcaaCovariance j) (j .assets)))
     (laid 0 (hcaa.hcaaOutcome j room) (room .order) (hierarchy.hcaaOrder (j .distance) (j .linkage) (hcaa.hcaaCovariance j) (j .assets)))
@@ -327,6 +330,7 @@ pub promised : (text : List ℕ) (m room : ℕ) (r : Listed) (out : List ℕ) �
 unfolding hcaaJobIn
 promised text m room r out e t = record {
   made = subst (λ (k : ℕ). Told text k r out) e t;
+  adds-up = λ done. adds-up (jobWeights text (jobIn text)) (weights-done text room done);
   equal-shares = λ l d done is equal.
       let n = assets text in
       let o = sym (ap (allocatorSays text) is ∙ hcaa-says text n l d) ∙ allocator-done text room done in

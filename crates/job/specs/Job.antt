@@ -1,4 +1,5 @@
--- Document 01, "Millionths and the job program": from a job text to its listing. "Order: 9, 15, 8, 7, the allocator's, 13." Definitions only.
+-- Document 01, "Millionths and the job program": from a job text to its listing. "Order: 9, 15, 8, 7, the allocator's, 13",
+-- and document 02, request 3: "18, after 13". Definitions only.
 use Prim.Native.Nat.{ℕ}
 use mathlib.Core.Path.{_≡_}
 use mathlib.Core.Bool.{false}
@@ -27,7 +28,9 @@ use Rattle.hcaa.specs.declared.Clusters.{Clusters}
 use Rattle.hcaa.specs.declared.Clusters.the-variants as clusters
 use Rattle.metrics.specs.declared.Metric.the-variants.{EqualWeighting}
 use Rattle.equal.specs.Equal.{EqualShares}
-use Rattle.listing.specs.Listing.{listing, least-listing, rangeTable, ListingMade}
+use Rattle.millionths.specs.Millionths.{millionthsIn, millionthsLines}
+use Rattle.millionths.specs.Meaning.{Serves}
+use Rattle.listing.specs.Listing.{listing, least-listing, ListingMade}
 use Rattle.listing.specs.declared.Listed.{Listed}
 
 -- ---- the allocator's call: the covariance of the text, and nothing else
@@ -88,7 +91,7 @@ hcaaJobIn text l d = record {
 abbrev pub roomOfHrp : parity.ParityRoom
 roomOfHrp = record { rows = 126; order = 64; weights = 64; correlations = 4096; distances = 4096; scratch = 8192 }
 
-abbrev pub roomOfHcaa : hierarchy.HierarchyRoom
+abbrev pub roomOfHcaa : hierarchy.Room
 roomOfHcaa = record { rows = 126; order = 64; weights = 64; scratch = 8192 }
 
 -- ---- what it says, its weights and its leaf order; by what the text asks for
@@ -119,10 +122,10 @@ unfolding textLines
 textTable text room = (ltb most-bytes (length text), OverLimit) ∷ (ltb room least-listing, ShortBuffer) ∷ textLines text
 
 unfoldable pub jobOutcome : List ℕ → ℕ → Outcome
-unfolding textTable allocatorSays rangeTable jobWeights jobIn
+unfolding textTable allocatorSays jobWeights jobIn
 jobOutcome text room =
     andThen (first (textTable text room))
-    (andThen (allocatorSays text (jobIn text)) (first (rangeTable (jobWeights text (jobIn text)))))
+    (andThen (allocatorSays text (jobIn text)) (first (millionthsLines (jobWeights text (jobIn text)))))
 
 -- ---- the listing
 
@@ -133,6 +136,8 @@ listingOf text = listing (nameOf text) (jobWeights text (jobIn text)) (jobOrder 
 -- what the call answers and leaves in its buffer. A refused text leaves zeros; the refusal is what is returned
 pub record TextListed (text : List ℕ) (room : ℕ) (r : Listed) (out : List ℕ) : Type 0 where
   pub made : ListingMade (jobOutcome text room) (listingOf text) room r out
+  -- document 02, request 3: an accepted text lists millionths that total 1,000,000, nobody's moved by more than one
+  pub adds-up : jobOutcome text room ≡ outcome.Done → Serves (jobWeights text (jobIn text)) (millionthsIn (jobWeights text (jobIn text)))
   -- demand 3: an accepted `hcaa` text by equal weighting lists equal shares, by the rows of its tree and its clusters
   pub equal-shares : (l : Linkage) (d : Distance) → jobOutcome text room ≡ outcome.Done → jobIn text ≡ reading.Hcaa (assets text) l d
       → hcaa.usedMetric (hcaaJobIn text l d) ≡ EqualWeighting

@@ -16,8 +16,6 @@ ghost use lib.ListN.{length};
 ghost use Rattle.refusal.specs.declared.Refusal.the-variants.{OverLimit, ShortBuffer};
 ghost use Rattle.reading.specs.Reading.{field, clustersOf};
 ghost use Rattle.reading.specs.declared.Reading.the-variants as reading;
-ghost use Rattle.parity.specs.Parity as parity;
-ghost use Rattle.hierarchy.specs.Hierarchy as hierarchy;
 ghost use Rattle.job.specs.Inner.{BlankListing, Read, Allotted, Told};
 ghost use Rattle.job.specs.Job.{clustersAs, roomOfHrp, roomOfHcaa, TextListed};
 
@@ -58,7 +56,14 @@ fn hrp_in(
     distance: Distance,
     out: &mut [u8],
 ) -> Listed
-    requires { ⌜ parity.parityRoom (length (now rows)) (length (now order)) (length (now weights)) (length (now correlations)) (length (now distances)) (length (now scratch)) ≡ roomOfHrp ⌝ }
+    requires { ⌜ record {
+      rows = length (now rows);
+      order = length (now order);
+      weights = length (now weights);
+      correlations = length (now correlations);
+      distances = length (now distances);
+      scratch = length (now scratch);
+    } ≡ roomOfHrp ⌝ }
     requires { ⌜ Read (now text) (reading.Hrp (length (now starts)) distance) (now covariance) (now starts) ⌝ }
     requires { ⌜ BlankListing (now out) ⌝ }
     ensures { λ r. ⌜ Told (now (text .entry)) (length (now (out .entry))) r (now (out .exit)) ⌝ }
@@ -145,7 +150,7 @@ fn hcaa_in(
     distance: Distance,
     out: &mut [u8],
 ) -> Listed
-    requires { ⌜ hierarchy.hierarchyRoom (length (now rows)) (length (now order)) (length (now weights)) (length (now scratch)) ≡ roomOfHcaa ⌝ }
+    requires { ⌜ record { rows = length (now rows); order = length (now order); weights = length (now weights); scratch = length (now scratch) } ≡ roomOfHcaa ⌝ }
     requires { ⌜ Read (now text) (reading.Hcaa (length (now starts)) linkage distance) (now covariance) (now starts) ⌝ }
     requires { ⌜ BlankListing (now out) ⌝ }
     ensures { λ r. ⌜ Told (now (text .entry)) (length (now (out .entry))) r (now (out .exit)) ⌝ }

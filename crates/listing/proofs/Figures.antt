@@ -8,7 +8,10 @@ use lib.ListN.{getD}
 use lib.Ieee.{Float, binary64, size, odd, ofFields, ofBits, toBits}
 use Rattle.text.specs.Bytes.{bytes, same}
 use Rattle.fields.specs.Split.{all}
-use Rattle.millionths.specs.Millionths.{inMillionths, millionthsOf}
+use Rattle.lent.specs.Count.{upto}
+use Rattle.lent.specs.Grid.{tab}
+use Rattle.fractions.specs.Fractions.{wholePart, leftOver, wholeAt, leftAt, sooner, rankOf}
+use Rattle.millionths.specs.Millionths.{wholeTotal, missing, millionthsAt, millionthsIn}
 use Rattle.listing.specs.Listing.{digitByte, digits, places, decimal, hexOf, joined, assetLine, lineOf, ordered, listing, refusalLine}
 
 -- A, B, C
@@ -49,5 +52,5 @@ table =
     ∷ []
 
 pub figures : all (λ b. b) table ≡ true
-unfolding all same listing joined lineOf ordered assetLine refusalLine decimal hexOf places digits digitByte millionthsOf inMillionths ofBits toBits ofFields odd size trailingZeros
+unfolding all same listing joined lineOf ordered assetLine refusalLine decimal hexOf places digits digitByte tab upto wholePart leftOver wholeAt leftAt sooner rankOf wholeTotal missing millionthsAt millionthsIn ofBits toBits ofFields odd size trailingZeros
 figures = refl

@@ -8,7 +8,7 @@ use native.Mathlib.Numerals.{add-one}
 use lib.ListN.{length, getD, length-append}
 use lib.Ieee.{Float, nan, binary64, toBits}
 use Rattle.text.specs.Bytes.{bytes}
-use Rattle.millionths.specs.Millionths.{millionthsOf, partOf}
+use Rattle.millionths.specs.Millionths.{millionthsIn}
 use Rattle.listing.specs.Listing.{joined, assetLine, lineOf, ordered, listing, refusalLine, nameIn}
 use Rattle.listing.specs.Inner.{Wrote, Named}
 use Rattle.listing.proofs.Writing.{nothing, renamed, then}
@@ -52,7 +52,7 @@ line-le name w m h = simp length-append (omega (arith, length-hex (toBits binary
 module _ (name : ℕ → List ℕ) where
   pub lines-le : (ws : List Float) (n : ℕ) → ((i : ℕ) → i < n → length (name i) ≤ 16) → length (joined n (lineOf name ws)) ≤ 42 * n
   unfolding lineOf
-  lines-le ws n h = joined-le n 42 (lineOf name ws) (λ i l. line-le (name i) (getD ws i nan) (partOf (millionthsOf (getD ws i nan))) (h i l))
+  lines-le ws n h = joined-le n 42 (lineOf name ws) (λ i l. line-le (name i) (getD ws i nan) (getD (millionthsIn ws) i 0) (h i l))
 
   pub names-le : (order : List ℕ) (n : ℕ) → ((k : ℕ) → k < n → length (name (getD order k 0)) ≤ 16) → length (joined n (ordered name order)) ≤ 17 * n
   unfolding ordered

@@ -6,7 +6,7 @@ use mathlib.Core.List.{List, [], _∷_, _++_}
 use native.Mathlib.Omega.{arith}
 use borrow.Author.Tests.{ltb-false, lt-ltb, le-ltb, leb-true, eqb-true, not-false}
 use lib.ListN.{length, getD, replicate, length-append, List·getD-append}
-use lib.Ieee.{Float, nan}
+use lib.Ieee.{Float}
 use Rattle.refusal.specs.Table.{first, andThen}
 use Rattle.refusal.specs.Telling.{accepts, tells}
 use Rattle.refusal.specs.declared.Refusal.{Refusal}
@@ -20,10 +20,11 @@ use Rattle.lent.proofs.Laws.{length-tab, getD-tab}
 use Rattle.lent.proofs.Sizes.{laid-done, laid-refused}
 use Rattle.fields.specs.Split.{all}
 use Rattle.fields.proofs.Every.{all-at}
-use Rattle.millionths.specs.Millionths.{millionthsOf, partOf, millionthsTable, millionthsOutcome, millionthsIn, millionthsLaid}
+use Rattle.millionths.specs.Millionths.{millionthsAt, millionthsIn, millionthsLines, millionthsTable, millionthsOutcome, millionthsLaid}
+use Rattle.millionths.proofs.Lists.{accepted, at-most}
 use Rattle.tree.specs.Rows.{isOrder}
 use Rattle.tree.proofs.Rows.{is-order}
-use Rattle.listing.specs.Listing.{places, decimal, refusalLine, listedAs, ListingMade, nameIn, isShort, sheetLines, rangeTable, sheetOutcome, refusalOutcome}
+use Rattle.listing.specs.Listing.{places, decimal, refusalLine, listedAs, ListingMade, nameIn, isShort, sheetLines, sheetOutcome, refusalOutcome}
 use Rattle.listing.specs.Inner.{Wrote, Named, Parted, Listable}
 use Rattle.listing.specs.declared.Listed.{Listed}
 use Rattle.listing.specs.declared.Listed.the-variants as listed
@@ -52,11 +53,11 @@ made-refused o s room out k e z = record {
   told = sym (ap (λ (x : Outcome). tells x (length s)) e);
 }
 
--- ---- 13, by itself
+-- ---- 13 and 18, by themselves
 
-range-said : (ws : List Float) → length ws ≤ 64 → millionthsOutcome ws 64 ≡ first (rangeTable ws)
-unfolding millionthsOutcome millionthsTable rangeTable
-range-said ws h = table-pass _ OverLimit _ (le-ltb 64 (length ws) h) ∙ table-pass _ ShortBuffer _ (le-ltb 64 (length ws) h)
+parts-said : (ws : List Float) → length ws ≤ 64 → millionthsOutcome ws 64 ≡ first (millionthsLines ws)
+unfolding millionthsOutcome millionthsTable
+parts-said ws h = table-pass _ OverLimit _ (le-ltb 64 (length ws) h) ∙ table-pass _ ShortBuffer _ (le-ltb 64 (length ws) h)
 
 -- ---- the listing: what its lines find right
 
@@ -85,8 +86,8 @@ module _ (text starts : List ℕ) (ws : List Float) (order : List ℕ) (room : �
   unfolding sheetOutcome andThen
   sheet-said = t ∙ rw (j, m) (go (first (sheetLines text starts (length ws) order room)) refl)
     where
-      go : (o : Outcome) → first (sheetLines text starts (length ws) order room) ≡ o → andThen o (millionthsOutcome ws 64) ≡ andThen o (first (rangeTable ws))
-      go Done e = let r = right text starts (length ws) order room e in range-said ws (omega (arith, r .few, r .weighed))
+      go : (o : Outcome) → first (sheetLines text starts (length ws) order room) ≡ o → andThen o (millionthsOutcome ws 64) ≡ andThen o (first (millionthsLines ws))
+      go Done e = let r = right text starts (length ws) order room e in parts-said ws (omega (arith, r .few, r .weighed))
       go (Refused k) e = refl
 
   module _ (d : said ≡ Done) where
@@ -103,12 +104,14 @@ module _ (text starts : List ℕ) (ws : List Float) (order : List ℕ) (room : �
     parted : (parts : List ℕ) → length parts ≡ 64 → parts ≡ millionthsLaid ws 64 → Parted ws parts
     unfolding millionthsLaid millionthsIn laid
     parted parts l p =
-        let f : ℕ → ℕ = λ i. partOf (millionthsOf (getD ws i nan)) in
-        let n = length-tab (length ws) f in
+        let n = length-tab (length ws) (millionthsAt ws) in
         let e : parts ≡ millionthsIn ws ++ noughts (64 - length (millionthsIn ws)) = p ∙ ap (λ (x : Outcome). laid 0 x 64 (millionthsIn ws)) (sym m ∙ both .1) in
         record {
           wide = omega (arith, found .few, found .weighed);
-          are = λ i h. ap (λ (x : List ℕ). getD x i 0) e ∙ List·getD-append (millionthsIn ws) _ 0 i (omega (arith, n)) ∙ getD-tab (length ws) f i 0 h;
+          are = λ i h. ap (λ (x : List ℕ). getD x i 0) e ∙ List·getD-append (millionthsIn ws) _ 0 i (omega (arith, n));
+          small = λ i h.
+              let q = ap (λ (x : List ℕ). getD x i 0) e ∙ List·getD-append (millionthsIn ws) _ 0 i (omega (arith, n)) ∙ getD-tab (length ws) (millionthsAt ws) i 0 h in
+              omega (arith, q, at-most ws (accepted ws 64 (sym m ∙ both .1) .ranged) i h);
         }
 
     pub listable : (parts : List ℕ) → length parts ≡ 64 → parts ≡ millionthsLaid ws 64 → (room′ : ℕ) → room′ ≡ room → Listable text starts ws parts order room′

@@ -4,8 +4,8 @@ use mathlib.Core.Path.{_≡_}
 use mathlib.Core.List.{List}
 use lib.ListN.{length, getD}
 use lib.Seq.{paste}
-use lib.Ieee.{Float, nan}
-use Rattle.millionths.specs.Millionths.{millionthsOf, partOf}
+use lib.Ieee.{Float}
+use Rattle.millionths.specs.Millionths.{millionthsIn}
 use Rattle.listing.specs.Listing.{nameIn}
 
 -- d, with s written from place `at` on
@@ -27,7 +27,8 @@ pub record Named (text starts : List ℕ) : Type 0 where
 -- the millionths of the weights
 pub record Parted (ws : List Float) (parts : List ℕ) : Type 0 where
   pub wide : length ws ≤ length parts
-  pub are : (i : ℕ) → i < length ws → getD parts i 0 ≡ partOf (millionthsOf (getD ws i nan))
+  pub are : (i : ℕ) → i < length ws → getD parts i 0 ≡ getD (millionthsIn ws) i 0
+  pub small : (i : ℕ) → i < length ws → getD parts i 0 < 10000000
 
 -- what a listing is made of
 pub record Listable (text starts : List ℕ) (ws : List Float) (parts order : List ℕ) (room : ℕ) : Type 0 where

@@ -4,19 +4,19 @@ use mathlib.Core.Path.{_≡_}
 use mathlib.Core.Bool.{Bool, not, cond}
 use mathlib.Core.List.{List, [], _∷_, _++_}
 use lib.Dec.{leb, ltb, eqb}
-use lib.ListN.{length, getD, drop}
+use lib.ListN.{length, getD}
 use lib.Ieee.{Float, nan, binary64, toBits}
 use Rattle.refusal.specs.Table.{Line, first, andThen}
 use Rattle.refusal.specs.Telling.{Telling, accepts, refuses, tells}
-use Rattle.refusal.specs.declared.Refusal.the-variants.{DimensionMismatch, OverLimit, ShortBuffer, WeightOutOfRange, NoTree, MalformedText}
+use Rattle.refusal.specs.declared.Refusal.the-variants.{DimensionMismatch, OverLimit, ShortBuffer, NoTree, MalformedText}
 use Rattle.refusal.specs.declared.Outcome.{Outcome}
 use Rattle.refusal.specs.declared.Outcome.the-variants as outcome
 use Rattle.lent.specs.Lent.{most-assets, laid}
 use Rattle.text.specs.Bytes.{bytes}
-use Rattle.fields.specs.Split.{newline, tabulator, firstPiece, all}
-use Rattle.millionths.specs.Millionths.{millionthsOf, partOf, inRange}
+use Rattle.fields.specs.Split.{newline, tabulator, all}
+use Rattle.millionths.specs.Millionths.{millionthsIn, millionthsLines}
 use Rattle.tree.specs.Rows.{isOrder}
-use Rattle.reading.specs.Reading.{most-bytes}
+use Rattle.reading.specs.Reading.{most-bytes, nameFrom}
 use Rattle.listing.specs.declared.Listed.{Listed}
 use Rattle.listing.specs.declared.Listed.the-variants as listed
 
@@ -58,7 +58,7 @@ assetLine name w m = name ++ (tabulator ∷ []) ++ hexOf (toBits binary64 w) ++ 
 -- a line for each weight
 unfoldable pub lineOf : (ℕ → List ℕ) → List Float → ℕ → List ℕ
 unfolding assetLine
-lineOf name ws i = assetLine (name i) (getD ws i nan) (partOf (millionthsOf (getD ws i nan)))
+lineOf name ws i = assetLine (name i) (getD ws i nan) (getD (millionthsIn ws) i 0)
 
 -- "then the leaf order"
 unfoldable pub ordered : (ℕ → List ℕ) → List ℕ → ℕ → List ℕ
@@ -98,15 +98,13 @@ pub record ListingMade (o : Outcome) (s : List ℕ) (room : ℕ) (r : Listed) (o
 
 -- ---- the listing of the assets whose lines begin at `starts` in a text, by their weights and their leaf order
 
--- the name on a line: what stands from its start to the first tab or the line's end
+-- the name on the line of asset i
 unfoldable pub nameIn : List ℕ → List ℕ → ℕ → List ℕ
-unfolding firstPiece
-nameIn text starts i = firstPiece tabulator (firstPiece newline (drop (getD starts i 0) text))
+nameIn text starts i = nameFrom text (getD starts i 0)
 
 -- "a name of 1 to 16 bytes": one of more has no place in a listing
 unfoldable pub isShort : List ℕ → ℕ → Bool
-unfolding firstPiece
-isShort text start = leb (length (firstPiece tabulator (firstPiece newline (drop start text)))) 16
+isShort text start = leb (length (nameFrom text start)) 16
 
 -- 8,192 bytes hold every listing
 abbrev pub least-listing : ℕ
@@ -124,14 +122,10 @@ sheetLines text starts count order room =
     ∷ (not (all (isShort text) starts), MalformedText)
     ∷ []
 
--- "a weight to be put in millionths is NaN, below 0 or above 1" (13)
-unfoldable pub rangeTable : List Float → List Line
-unfolding all inRange
-rangeTable ws = (not (all inRange ws), WeightOutOfRange) ∷ []
-
+-- then 13 and 18
 unfoldable pub sheetOutcome : List ℕ → List ℕ → List Float → List ℕ → ℕ → Outcome
-unfolding sheetLines rangeTable
-sheetOutcome text starts ws order room = andThen (first (sheetLines text starts (length ws) order room)) (first (rangeTable ws))
+unfolding sheetLines
+sheetOutcome text starts ws order room = andThen (first (sheetLines text starts (length ws) order room)) (first (millionthsLines ws))
 
 -- ---- the line of a refusal of a number, into a buffer of `room` bytes: 11 where it does not fit
 

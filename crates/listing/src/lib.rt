@@ -241,9 +241,9 @@ pub fn sheet(
         (length (now (out .entry))) r (now (out .exit)) ⌝ }
 {
     let mut parts = [0usize; 64];
-    let ranged = millionths::weights_in_millionths(weights, &mut parts);
+    let parted = millionths::weights_in_millionths(weights, &mut parts);
     let judged = judge(text, starts, weights.len(), order, out.len());
-    let said = refusal::and_then(judged, ranged);
+    let said = refusal::and_then(judged, parted);
     lent::clear_bytes_from(out, 0);
     match said {
         Outcome::Done => Listed::Sheet(put_listing(text, starts, weights, &parts, order, out)),

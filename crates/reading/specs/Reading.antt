@@ -14,7 +14,7 @@ use Rattle.refusal.specs.declared.Outcome.the-variants as outcome
 use Rattle.lent.specs.Grid.{grid, tab}
 use Rattle.lent.specs.Lent.{most-assets, most-cells, laid}
 use Rattle.text.specs.Bytes.{bytes, same}
-use Rattle.fields.specs.Split.{newline, tabulator, split, piece, endOf, all}
+use Rattle.fields.specs.Split.{newline, tabulator, firstPiece, split, piece, endOf, all}
 use Rattle.fields.specs.Numerals.{isCell, cellOf, numeralRead}
 use Rattle.fields.specs.declared.Numeral.{Numeral}
 use Rattle.fields.specs.declared.Numeral.the-variants as numeral
@@ -127,6 +127,10 @@ covarianceIn text = grid (assets text) (assets text) (textCell text)
 unfoldable pub nameOf : List ℕ → ℕ → List ℕ
 unfolding split
 nameOf text i = field (line text (i + 1)) 0
+
+-- the same by the place where its line begins: what stands from there to the first tab or the line's end
+abbrev pub nameFrom : List ℕ → ℕ → List ℕ
+nameFrom text start = firstPiece tabulator (firstPiece newline (drop start text))
 
 -- where line k begins
 unfoldable pub startOf : List ℕ → ℕ → ℕ

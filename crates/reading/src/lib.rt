@@ -10,11 +10,11 @@ use refusal::Outcome;
 use refusal::Refusal;
 ghost use mathlib.Core.Path.{_≡_};
 ghost use Prim.Native.Nat.{_+_, _*_, _≤_};
-ghost use lib.ListN.{length, drop};
-ghost use Rattle.fields.specs.Split.{split, firstPiece, all};
+ghost use lib.ListN.{length};
+ghost use Rattle.fields.specs.Split.{split, all};
 ghost use Rattle.linkage.specs.Names.{distanceNamed, linkageNamed};
 ghost use Rattle.refusal.specs.Table.{first};
-ghost use Rattle.reading.specs.Reading.{field, clustersOf, wellAsked, isHrp, isHcaa, inName, isName, hrpRead, hcaaRead, readOf, covarianceLaid, startsLaid};
+ghost use Rattle.reading.specs.Reading.{field, nameFrom, clustersOf, wellAsked, isHrp, isHcaa, inName, isName, hrpRead, hcaaRead, readOf, covarianceLaid, startsLaid};
 ghost use Rattle.reading.specs.Inner.{textSizeLines, headOf, RowRead, AssetRead, AssetsRead, TextRead};
 
 pub const MOST_BYTES: usize = 65536;
@@ -287,7 +287,7 @@ pub fn read_job(text: &[u8], covariance: &mut [f64], starts: &mut [usize]) -> Re
 
 // The name on the line that begins at a place.
 pub fn name(text: &[u8], start: usize) -> &[u8]
-    ensures { λ r. ⌜ now r ≡ firstPiece 9 (firstPiece 10 (drop start (now (text .entry)))) ⌝ }
+    ensures { λ r. ⌜ now r ≡ nameFrom (now (text .entry)) start ⌝ }
 {
     if text.len() <= start {
         return &text[text.len()..];

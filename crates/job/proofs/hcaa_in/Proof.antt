@@ -50,7 +50,7 @@ finish-requires : tie.Need-finish-requires
 finish-requires c κs = let s = c .before .before .before .before .before .before .before .before .before .before .before .before .before .before .before .before .before .before .before .before .before .before .before .before .before .before .before .before .before .before .before .before in
     let l = c .before .before .before .before .before .before .before .before .before .before .before .before .before .before .before .before .before .before .before .before .before .before .before .piece .ensures in
     let k = c .before .before .before .before .before .before .before .before .before .before .before .allocate .kept .1 .1 .1 .1 .1 .1 .1 .1 .1 .1 .1 .1 .1 .1 .1 .1 .1 in
-    (hcaa-allotted _ _ _ _ _ (s .pre .1 .0) _ _ (c .before .before .before .before .before .before .before .before .before .before .before .before .before .before .before .before .before .before .before .piece2 .ensures ∙ ap (λ (x : List ℕ). field x 1) l) (c .before .before .before .before .before .before .before .before .before .before .before .before .before .before .before .before .before .clusters-in .ensures ∙ ap (λ (x : List ℕ). clustersAs (clustersOf (field x 4))) l) _ (s .pre .0) _ _ _ _ _ (c .before .before .before .before .before .before .before .before .before .before .before .allocate .ensures) (k .1 .0 ∙ ap (λ (r : hierarchy.HierarchyRoom). r .weights) (s .pre .0)) (k .0 ∙ ap (λ (r : hierarchy.HierarchyRoom). r .order) (s .pre .0)), s .pre .1 .1)
+    (hcaa-allotted _ _ _ _ _ (s .pre .1 .0) _ _ (c .before .before .before .before .before .before .before .before .before .before .before .before .before .before .before .before .before .before .before .piece2 .ensures ∙ ap (λ (x : List ℕ). field x 1) l) (c .before .before .before .before .before .before .before .before .before .before .before .before .before .before .before .before .before .clusters-in .ensures ∙ ap (λ (x : List ℕ). clustersAs (clustersOf (field x 4))) l) _ (s .pre .0) _ _ _ _ _ (c .before .before .before .before .before .before .before .before .before .before .before .allocate .ensures) (k .1 .0 ∙ ap (λ (r : hierarchy.Room). r .weights) (s .pre .0)) (k .0 ∙ ap (λ (r : hierarchy.Room). r .order) (s .pre .0)), s .pre .1 .1)
 
 -- src/lib.rt:349:1
 same-length : tie.Need-same-length

@@ -5,7 +5,6 @@ use mathlib.Core.List.{List}
 use native.Mathlib.Omega.{arith}
 use lib.Ieee.{nan}
 use lib.ListN.{length, getD}
-use Rattle.millionths.proofs.Meaning.{part-most}
 use Rattle.listing.specs.Listing.{joined, assetLine, lineOf, nameIn}
 use Rattle.listing.specs.Inner.{Wrote}
 use Rattle.listing.proofs.Lines.{none-yet, one-more, all-parts, line-room}
@@ -49,8 +48,7 @@ put-asset-requires c κs =
     let s = c .before .before .before .before .before .before .before .before .before .before .before .before in
     let h = c .before .before .before .before .before .loop-test .taken in
     let n = s .pre .0 .short (at .loop .i) (omega (arith, s .pre .1 .0)) in
-    let w = getD (s .args .weights .now) (at .loop .i) nan in
-    (omega (arith, n, ap length (c .before .before .name .ensures)), (omega (arith, s .pre .1 .1 .0 .are (at .loop .i) h, part-most w), line-room (s .pre .0) _ (at .loop .i) (s .pre .1 .0) (at .loop .inv .1) h (s .pre .1 .1 .1)))
+    (omega (arith, n, ap length (c .before .before .name .ensures)), (s .pre .1 .1 .0 .small (at .loop .i) h, line-room (s .pre .0) _ (at .loop .i) (s .pre .1 .0) (at .loop .inv .1) h (s .pre .1 .1 .1)))
 
 add-i : tie.Need-add-i Inv-loop μ-loop
 add-i c = omega arith

@@ -1,7 +1,7 @@
 -- `listing::refusal_line` meets its contract. Assumes nothing.
 use mathlib.Core.Path.{_≡_, sym, ap, _∙_}
 use native.Mathlib.Omega.{arith}
-use native.Mathlib.Numerals.{unary-clauses}
+use Rattle.lent.proofs.Clearing.{cleared}
 use borrow.Author.Needs.{needs}
 use Rattle.listing.proofs.Digits.{places-le}
 use Rattle.listing.proofs.Sheets.{made-done, made-refused, line-fits, line-short}
@@ -22,8 +22,8 @@ same-length c = c .before .before .before .clear-bytes-from .kept .0
 
 returns : tie.Need-returns
 returns c =
-    let cleared = c .before .before .before .clear-bytes-from in
-    made-refused _ _ _ _ _ (line-short _ _ _ (c .before .before .before .before .before .places .ensures) (omega (arith, c .if1 .taken, cleared .kept .0))) (simp unary-clauses at (cleared .ensures))
+    let blank = c .before .before .before .clear-bytes-from in
+    made-refused _ _ _ _ _ (line-short _ _ _ (c .before .before .before .before .before .places .ensures) (omega (arith, c .if1 .taken, blank .kept .0))) (cleared (c .before .before .before .before .before .before .before .args .line .now) _ (blank .ensures))
 
 put-refusal-requires : tie.Need-put-refusal-requires
 put-refusal-requires c κs = (c .before .before .before .before .before .before .places .ensures, omega (arith, c .before .if1 .left))
@@ -33,8 +33,8 @@ same-length-2 c = c .before .before .put-refusal .kept .1 .1 .0 ∙ c .before .b
 
 returns-2 : tie.Need-returns-2
 returns-2 c =
-    let cleared = c .before .before .before .before .before .before .before .clear-bytes-from in
-    made-done _ _ _ _ _ _ (line-fits _ _ _ (c .before .before .before .before .before .before .before .before .before .places .ensures) (omega (arith, c .before .before .before .before .if1 .left, cleared .kept .0))) (simp unary-clauses at (cleared .ensures)) (c .before .before .put-refusal .ensures)
+    let blank = c .before .before .before .before .before .before .before .clear-bytes-from in
+    made-done _ _ _ _ _ _ (line-fits _ _ _ (c .before .before .before .before .before .before .before .before .before .places .ensures) (omega (arith, c .before .before .before .before .if1 .left, blank .kept .0))) (cleared (c .before .before .before .before .before .before .before .before .before .before .before .args .line .now) _ (blank .ensures)) (c .before .before .put-refusal .ensures)
 
 pub refusal-line-spec : {M : Type 1} → statement M
 refusal-line-spec =

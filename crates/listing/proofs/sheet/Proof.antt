@@ -1,6 +1,6 @@
 -- `listing::sheet` meets its contract: judged, cleared, written. Assumes nothing.
 use mathlib.Core.Path.{sym, _∙_}
-use native.Mathlib.Numerals.{unary-clauses}
+use Rattle.lent.proofs.Clearing.{cleared}
 use Rattle.listing.proofs.Sheets.{made-done, made-refused, sheet-said, listable}
 use borrow.Author.Needs.{needs}
 use Rattle.listing.proofs.sheet.Statement.{statement}
@@ -41,7 +41,7 @@ same-length c = c .before .before .put-listing .kept .1 .1 .1 .1 .1 .0 ∙ c .be
 returns : tie.Need-returns
 returns c =
     let said = sheet-said _ _ _ _ _ _ _ _ (c .before .before .before .before .before .before .before .before .before .before .before .before .judge .ensures) (c .before .before .before .before .before .before .before .before .before .before .before .before .before .before .weights-in-millionths .ensures .0) (c .before .before .before .before .before .before .before .before .before .before .before .and-then .ensures) in
-    made-done _ _ _ _ _ _ (sym said ∙ c .before .before .before .before .before .enum-told .given .1) (simp unary-clauses at (c .before .before .before .before .before .before .before .before .before .clear-bytes-from .ensures)) (c .before .before .put-listing .ensures)
+    made-done _ _ _ _ _ _ (sym said ∙ c .before .before .before .before .before .enum-told .given .1) (cleared (c .before .before .before .before .before .before .before .before .before .before .before .before .before .before .before .before .before .before .before .before .before .args .out .now) _ (c .before .before .before .before .before .before .before .before .before .clear-bytes-from .ensures)) (c .before .before .put-listing .ensures)
 
 same-length-2 : tie.Need-same-length-2
 same-length-2 c = c .before .before .before .before .before .clear-bytes-from .kept .0
@@ -49,7 +49,7 @@ same-length-2 c = c .before .before .before .before .before .clear-bytes-from .k
 returns-2 : tie.Need-returns-2
 returns-2 c =
     let said = sheet-said _ _ _ _ _ _ _ _ (c .before .before .before .before .before .before .before .before .judge .ensures) (c .before .before .before .before .before .before .before .before .before .before .weights-in-millionths .ensures .0) (c .before .before .before .before .before .before .before .and-then .ensures) in
-    made-refused _ _ _ _ _ (sym said ∙ c .before .said .given .1) (simp unary-clauses at (c .before .before .before .before .before .clear-bytes-from .ensures))
+    made-refused _ _ _ _ _ (sym said ∙ c .before .said .given .1) (cleared (c .before .before .before .before .before .before .before .before .before .before .before .before .before .before .before .before .before .args .out .now) _ (c .before .before .before .before .before .clear-bytes-from .ensures))
 
 pub sheet-spec : {M : Type 1} → statement M
 sheet-spec =
