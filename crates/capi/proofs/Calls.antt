@@ -30,10 +30,12 @@ use Rattle.linkage.specs.Names.{distanceNamed, linkageNamed}
 use Rattle.linkage.specs.Children.{childrenOutcome, childrenAnswer, childrenRows}
 use Rattle.linkage.specs.declared.Linkage.{Linkage}
 use Rattle.parity.specs.Parity.{ParityRoom, parityRoomLines, ParityCleared}
-use Rattle.hrp.specs.Hrp.{HrpJob, hrpJob, hrpOutcome, HrpAllocated}
+use Rattle.hrp.specs.Hrp.{HrpJob, hrpOutcome, HrpAllocated}
+use Rattle.hrp.specs.Inner.{hrpJob}
 use Rattle.hrp.proofs.Judged.{cleared}
 use Rattle.linkage.specs.declared.Distance.{Distance}
 use Rattle.hierarchy.specs.Hierarchy as hierarchy
+use Rattle.hcaa.specs.Inner.{hcaaJob}
 use Rattle.hcaa.specs.Hcaa as hcaa
 use Rattle.hcaa.specs.declared.Clusters.{Clusters}
 use Rattle.metrics.specs.declared.Metric.the-variants.{EqualWeighting}
@@ -74,8 +76,8 @@ module _ (n : ℕ) (p : List Float) (ps ps′ : Shape) (ep : ps ≡ ps′) (xs :
 -- ---- hierarchical clustering-based asset allocation: the shapes are read from the flags, the number of clusters too, and the linkage and the distance from their names
 
 -- buffers that are cleared are what a refusal leaves
-hcaa-cleared : (o : Outcome) (k : Refusal) (q : hierarchy.Rule) (d : Distance) (l : Linkage) (cov : List Float) (n : ℕ) (room : hierarchy.HierarchyRoom) (rows order : List ℕ) (weights scratch : List Float)
-    → o ≡ Refused k → hierarchy.HierarchyCleared room rows order weights scratch → hierarchy.HierarchyLaid o q d l cov n room rows order weights scratch
+hcaa-cleared : (o : Outcome) (k : Refusal) (q : hierarchy.Rule) (d : Distance) (l : Linkage) (cov : List Float) (n : ℕ) (room : hierarchy.Room) (rows order : List ℕ) (weights scratch : List Float)
+    → o ≡ Refused k → hierarchy.Cleared room rows order weights scratch → hierarchy.HierarchyLaid o q d l cov n room rows order weights scratch
 hcaa-cleared o k q d l cov n room rows order weights scratch e z =
     record {
       rows-are = z .rows-are ∙ laid-refused 0 o k _ _ e;
@@ -90,17 +92,17 @@ equal-for : (j : hcaa.HcaaJob) (o : Outcome) (r : ℕ) (rows : List ℕ) (weight
 equal-for j o r rows weights a q e m = q .shares (number-done o (sym a ∙ e)) m
 
 module _ (n : ℕ) (p : List Float) (ps ps′ : Shape) (ep : ps ≡ ps′) (xs : List Float) (rs rs′ : Shape) (er : rs ≡ rs′) (c : List Float) (cs cs′ : Shape) (ec : cs ≡ cs′) (e : List Float) (given : Bool) (metric method : List ℕ) (conf : Float)
-    (k : Clusters) (by link name : List ℕ) (room : hierarchy.HierarchyRoom) (count : ℕ) (said : Outcome)
-    (f : said ≡ andThen (first (matrixLines n ps (length p) rs (length xs) cs (length c))) (andThen (first (hierarchy.hierarchyRoomLines n room)) (andThen (first (askedLines count)) (andThen (linkageSays (linkageNamed link)) (distanceSays (distanceNamed name)))))) where
+    (k : Clusters) (by link name : List ℕ) (room : hierarchy.Room) (count : ℕ) (said : Outcome)
+    (f : said ≡ andThen (first (matrixLines n ps (length p) rs (length xs) cs (length c))) (andThen (first (hierarchy.roomLines n room)) (andThen (first (askedLines count)) (andThen (linkageSays (linkageNamed link)) (distanceSays (distanceNamed name)))))) where
   abbrev split : hcaa.HcaaJob
-  split = hcaa.hcaaJob n p ps′ xs rs′ c cs′ e given metric method conf k by (distanceMeant (distanceNamed name)) (linkageMeant (linkageNamed link))
+  split = hcaaJob n p ps′ xs rs′ c cs′ e given metric method conf k by (distanceMeant (distanceNamed name)) (linkageMeant (linkageNamed link))
 
   hcaa-stages : namedHcaaOutcome split link name room count ≡ andThen said (hcaa.hcaaOutcome split room)
   unfolding namedHcaaOutcome
   hcaa-stages = rw (f, ep, er, ec) (simp then-assoc)
 
   module _ (r : ℕ) (rows order : List ℕ) (weights scratch : List Float) (asked : List ℕ) where
-    pub hcaa-refused : (q : Refusal) → said ≡ Refused q → r ≡ numberIn said → asked ≡ askedLaid said count → hierarchy.HierarchyCleared room rows order weights scratch
+    pub hcaa-refused : (q : Refusal) → said ≡ Refused q → r ≡ numberIn said → asked ≡ askedLaid said count → hierarchy.Cleared room rows order weights scratch
         → HcaaAnswer split link name room count r rows order weights scratch asked
     hcaa-refused q h a t z =
         let o : namedHcaaOutcome split link name room count ≡ Refused q = hcaa-stages ∙ then-refused said _ q h in
@@ -112,7 +114,7 @@ module _ (n : ℕ) (p : List Float) (ps ps′ : Shape) (ep : ps ≡ ps′) (xs :
         }
 
     pub hcaa-done : said ≡ Done → (k′ : Clusters) → k′ ≡ k → (d : Distance) → d ≡ distanceMeant (distanceNamed name) → (l : Linkage) → l ≡ linkageMeant (linkageNamed link)
-        → (o : Outcome) → r ≡ numberIn o → asked ≡ askedLaid o count → hcaa.HcaaAllocated (hcaa.hcaaJob n p ps xs rs c cs e given metric method conf k′ by d l) room o rows order weights scratch
+        → (o : Outcome) → r ≡ numberIn o → asked ≡ askedLaid o count → hcaa.HcaaAllocated (hcaaJob n p ps xs rs c cs e given metric method conf k′ by d l) room o rows order weights scratch
         → HcaaAnswer split link name room count r rows order weights scratch asked
     hcaa-done h k′ ek d ed l el o a t z =
         let s : namedHcaaOutcome split link name room count ≡ hcaa.hcaaOutcome split room = hcaa-stages ∙ then-done said _ h in

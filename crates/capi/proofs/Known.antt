@@ -24,8 +24,10 @@ use Rattle.linkage.specs.declared.Linkage.{Linkage}
 use Rattle.linkage.specs.declared.NamedDistance.the-variants as distance
 use Rattle.linkage.specs.declared.NamedLinkage.the-variants as linkage
 use Rattle.parity.specs.Parity.{ParityRoom, parityRoomLines}
-use Rattle.hrp.specs.Hrp.{HrpJob, hrpJob, hrpShapeLines, numberLines, hrpTable, hrpOutcome, HrpAllocated}
+use Rattle.hrp.specs.Hrp.{HrpJob, hrpShapeLines, numberLines, hrpTable, hrpOutcome, HrpAllocated}
+use Rattle.hrp.specs.Inner.{hrpJob}
 use Rattle.hierarchy.specs.Hierarchy as hierarchy
+use Rattle.hcaa.specs.Inner.{hcaaJob}
 use Rattle.hcaa.specs.Hcaa as hcaa
 use Rattle.hcaa.specs.declared.Clusters.{Clusters}
 use Rattle.hcaa.proofs.Equal.{allocated}
@@ -69,12 +71,12 @@ module _ (n : ℕ) (p : List Float) (ps : Shape) (xs : List Float) (rs : Shape) 
 regroup : (a b x y z o : Outcome) → andThen a (andThen b (andThen x (andThen y (andThen z o)))) ≡ andThen (andThen a b) (andThen (andThen x (andThen y z)) o)
 regroup a b x y z o = simp then-assoc
 
-module _ (j : hcaa.HcaaJob) (link name : List ℕ) (room : hierarchy.HierarchyRoom) (count : ℕ) (l : Linkage) (d : Distance) (el : linkageNamed link ≡ linkage.Of l) (ed : distanceNamed name ≡ distance.Of d) (two : 2 ≤ count) where
+module _ (j : hcaa.HcaaJob) (link name : List ℕ) (room : hierarchy.Room) (count : ℕ) (l : Linkage) (d : Distance) (el : linkageNamed link ≡ linkage.Of l) (ed : distanceNamed name ≡ distance.Of d) (two : 2 ≤ count) where
   abbrev hcaa-matrices : List Line
   hcaa-matrices = matrixLines (j .assets) (j .prices-shape) (length (j .prices)) (j .returns-shape) (length (j .returns)) (j .covariance-shape) (length (j .covariance))
 
-  hcaa-behind : (rest : List Line) → first (hcaa-matrices ++ (hierarchy.hierarchyRoomLines (j .assets) room ++ rest)) ≡ andThen (andThen (first hcaa-matrices) (first (hierarchy.hierarchyRoomLines (j .assets) room))) (first rest)
-  hcaa-behind rest = first-append hcaa-matrices _ ∙ ap (andThen (first hcaa-matrices)) (first-append (hierarchy.hierarchyRoomLines (j .assets) room) rest) ∙ sym (then-assoc _ _ _)
+  hcaa-behind : (rest : List Line) → first (hcaa-matrices ++ (hierarchy.roomLines (j .assets) room ++ rest)) ≡ andThen (andThen (first hcaa-matrices) (first (hierarchy.roomLines (j .assets) room))) (first rest)
+  hcaa-behind rest = first-append hcaa-matrices _ ∙ ap (andThen (first hcaa-matrices)) (first-append (hierarchy.roomLines (j .assets) room) rest) ∙ sym (then-assoc _ _ _)
 
   asked-fits : first (askedLines count) ≡ Done
   unfolding askedLines
@@ -90,9 +92,9 @@ module _ (j : hcaa.HcaaJob) (link name : List ℕ) (room : hierarchy.HierarchyRo
 
 -- the answer, and every lent buffer, are those of `hcaa::allocate` with that linkage and that distance
 module _ (n : ℕ) (p : List Float) (ps : Shape) (xs : List Float) (rs : Shape) (c : List Float) (cs : Shape) (e : List Float) (given : Bool) (metric method : List ℕ) (conf : Float) (k : Clusters) (by link name : List ℕ)
-    (room : hierarchy.HierarchyRoom) (count r : ℕ) (rows order : List ℕ) (weights scratch : List Float) (asked : List ℕ) where
+    (room : hierarchy.Room) (count r : ℕ) (rows order : List ℕ) (weights scratch : List Float) (asked : List ℕ) where
   abbrev split : Distance → Linkage → hcaa.HcaaJob
-  split d l = hcaa.hcaaJob n p ps xs rs c cs e given metric method conf k by d l
+  split d l = hcaaJob n p ps xs rs c cs e given metric method conf k by d l
 
   pub hcaa-known : (l : Linkage) (d : Distance) → linkageNamed link ≡ linkage.Of l → distanceNamed name ≡ distance.Of d → 2 ≤ count
       → HcaaAnswer (split (distanceMeant (distanceNamed name)) (linkageMeant (linkageNamed link))) link name room count r rows order weights scratch asked

@@ -10,7 +10,7 @@ use Rattle.refusal.specs.Table.{Line, first, andThen}
 use Rattle.refusal.specs.Telling.{outcomeTells}
 use Rattle.refusal.specs.declared.Refusal.the-variants.{ShortBuffer}
 use Rattle.refusal.specs.declared.Outcome.{Outcome}
-use Rattle.lent.specs.Lent.{laid}
+use Rattle.lent.specs.Lent.{isSet, laid}
 use Rattle.inputs.specs.Inputs.{matrixLines}
 use Rattle.stats.specs.Covariance.{covarianceOutcome, covariances}
 use Rattle.tree.specs.Tree.{leavesOf}
@@ -28,7 +28,7 @@ use Rattle.metrics.specs.declared.Metric.the-variants.{EqualWeighting}
 use Rattle.equal.specs.Equal.{EqualShares}
 use Rattle.listing.specs.Listing.{refusalLine, refusalOutcome}
 use Rattle.job.specs.Job.{jobOutcome, listingOf}
-use Rattle.foreign.specs.Foreign.{isSet, distanceSays, linkageSays, linkageMeant, askedLines, askedLaid, mergeSizes, leafSizes, byteLines}
+use Rattle.foreign.specs.Foreign.{distanceSays, linkageSays, linkageMeant, askedLines, askedLaid, mergeSizes, leafSizes, byteLines}
 
 -- ---- hierarchical risk parity
 
@@ -51,15 +51,15 @@ unfoldable pub clustersFor : ℕ → ℕ → Clusters
 clustersFor given count = cond (isSet given) (Count count) All
 
 -- "Always 9, 10, 11 first"; then 8, then 7; then as the call behind, whose job has the linkage and the distance of these names
-unfoldable pub namedHcaaOutcome : hcaa.HcaaJob → List ℕ → List ℕ → hierarchy.HierarchyRoom → ℕ → Outcome
+unfoldable pub namedHcaaOutcome : hcaa.HcaaJob → List ℕ → List ℕ → hierarchy.Room → ℕ → Outcome
 unfolding askedLines linkageSays distanceSays
 namedHcaaOutcome j link name room asked =
     andThen (first (matrixLines (j .assets) (j .prices-shape) (length (j .prices)) (j .returns-shape) (length (j .returns)) (j .covariance-shape) (length (j .covariance))))
-    (andThen (first (hierarchy.hierarchyRoomLines (j .assets) room))
+    (andThen (first (hierarchy.roomLines (j .assets) room))
     (andThen (first (askedLines asked))
     (andThen (linkageSays (linkageNamed link)) (andThen (distanceSays (distanceNamed name)) (hcaa.hcaaOutcome j room)))))
 
-pub record HcaaAnswer (j : hcaa.HcaaJob) (link name : List ℕ) (room : hierarchy.HierarchyRoom) (count r : ℕ) (rows order : List ℕ) (weights scratch : List Float) (asked : List ℕ) : Type 0 where
+pub record HcaaAnswer (j : hcaa.HcaaJob) (link name : List ℕ) (room : hierarchy.Room) (count r : ℕ) (rows order : List ℕ) (weights scratch : List Float) (asked : List ℕ) : Type 0 where
   pub answer : r ≡ outcomeTells (namedHcaaOutcome j link name room count) .number
   pub buffers : hierarchy.HierarchyLaid (namedHcaaOutcome j link name room count) (hcaa.usedRule j) (j .distance) (j .linkage) (hcaa.hcaaCovariance j) (j .assets) room rows order weights scratch
   pub asked-is : asked ≡ askedLaid (namedHcaaOutcome j link name room count) count

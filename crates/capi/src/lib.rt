@@ -13,7 +13,8 @@ ghost use mathlib.Core.Path.{_≡_};
 ghost use lib.ListN.{length};
 ghost use Rattle.arithmetic.specs.Root.{root};
 ghost use Rattle.linkage.specs.Names.{distanceNamed, linkageNamed};
-ghost use Rattle.foreign.specs.Foreign.{isSet, shapeOf, distanceMeant, linkageMeant};
+ghost use Rattle.lent.specs.Lent.{isSet, shapeOf};
+ghost use Rattle.foreign.specs.Foreign.{distanceMeant, linkageMeant};
 ghost use Rattle.capi.specs.Capi.{HrpAnswer, clustersFor, HcaaAnswer, CovarianceAnswer, MergeAnswer, LeafAnswer, ListingAnswer, LineAnswer};
 
 // The square root of a double.
@@ -73,11 +74,11 @@ pub extern "C" fn rovignesc_hrp(
         (record {
           assets = assets;
           prices = now (prices .entry);
-          prices-shape = shapeOf «prices_given» «prices_rows» «prices_columns»;
+          prices-shape = shapeOf (isSet «prices_given») «prices_rows» «prices_columns»;
           returns = now (returns .entry);
-          returns-shape = shapeOf «returns_given» «returns_rows» «returns_columns»;
+          returns-shape = shapeOf (isSet «returns_given») «returns_rows» «returns_columns»;
           covariance = now (covariance .entry);
-          covariance-shape = shapeOf «covariance_given» «covariance_rows» «covariance_columns»;
+          covariance-shape = shapeOf (isSet «covariance_given») «covariance_rows» «covariance_columns»;
           resample-by = now («resample_by» .entry);
           use-shrinkage = isSet «use_shrinkage»;
           distance = distanceMeant (distanceNamed (now (distance .entry)));
@@ -93,9 +94,13 @@ pub extern "C" fn rovignesc_hrp(
         })
         r (now (rows .exit)) (now (order .exit)) (now (weights .exit)) (now («seriated_correlations» .exit)) (now («seriated_distances» .exit)) (now (scratch .exit)) ⌝ }
 {
-    let prices_shape = foreign::shape(prices_given, prices_rows, prices_columns);
-    let returns_shape = foreign::shape(returns_given, returns_rows, returns_columns);
-    let covariance_shape = foreign::shape(covariance_given, covariance_rows, covariance_columns);
+    let prices_shape = lent::shape_if(prices_given != 0, prices_rows, prices_columns);
+    let returns_shape = lent::shape_if(returns_given != 0, returns_rows, returns_columns);
+    let covariance_shape = lent::shape_if(
+        covariance_given != 0,
+        covariance_rows,
+        covariance_columns,
+    );
     let said = foreign::judge_hrp(
         assets,
         prices_shape,
@@ -113,7 +118,7 @@ pub extern "C" fn rovignesc_hrp(
         distance,
     );
     let Outcome::Done = said else {
-        parity::clear_all(
+        rooms::clear_with_matrices(
             rows,
             order,
             weights,
@@ -189,11 +194,11 @@ pub extern "C" fn rovignesc_hcaa(
         (record {
           assets = assets;
           prices = now (prices .entry);
-          prices-shape = shapeOf «prices_given» «prices_rows» «prices_columns»;
+          prices-shape = shapeOf (isSet «prices_given») «prices_rows» «prices_columns»;
           returns = now (returns .entry);
-          returns-shape = shapeOf «returns_given» «returns_rows» «returns_columns»;
+          returns-shape = shapeOf (isSet «returns_given») «returns_rows» «returns_columns»;
           covariance = now (covariance .entry);
-          covariance-shape = shapeOf «covariance_given» «covariance_rows» «covariance_columns»;
+          covariance-shape = shapeOf (isSet «covariance_given») «covariance_rows» «covariance_columns»;
           expected = now (expected .entry);
           expected-given = isSet «expected_given»;
           metric = now (metric .entry);
@@ -213,9 +218,13 @@ pub extern "C" fn rovignesc_hcaa(
         })
         (length (now (asked .entry))) r (now (rows .exit)) (now (order .exit)) (now (weights .exit)) (now (scratch .exit)) (now (asked .exit)) ⌝ }
 {
-    let prices_shape = foreign::shape(prices_given, prices_rows, prices_columns);
-    let returns_shape = foreign::shape(returns_given, returns_rows, returns_columns);
-    let covariance_shape = foreign::shape(covariance_given, covariance_rows, covariance_columns);
+    let prices_shape = lent::shape_if(prices_given != 0, prices_rows, prices_columns);
+    let returns_shape = lent::shape_if(returns_given != 0, returns_rows, returns_columns);
+    let covariance_shape = lent::shape_if(
+        covariance_given != 0,
+        covariance_rows,
+        covariance_columns,
+    );
     let said = foreign::judge_hcaa(
         assets,
         prices_shape,
@@ -233,7 +242,7 @@ pub extern "C" fn rovignesc_hcaa(
         distance,
     );
     let Outcome::Done = said else {
-        hierarchy::clear_all(rows, order, weights, scratch);
+        rooms::clear_all(rows, order, weights, scratch);
         return foreign::tell(said, asked);
     };
     let answer = hcaa::allocate(

@@ -14,7 +14,7 @@ use Rattle.refusal.specs.Refusal.{numberOf, valuesOf}
 use Rattle.refusal.specs.Table.{first}
 use Rattle.refusal.specs.declared.Outcome.{Outcome}
 use Rattle.refusal.specs.declared.Outcome.the-variants as outcome
-use Rattle.lent.specs.Count.{count}
+use Rattle.lent.specs.Count.{count, upto}
 use Rattle.lent.specs.Grid.{tab, grid, sumTo, sumOn, sumRows, anyTo}
 use Rattle.lent.specs.Range.{span, range}
 use Rattle.lent.specs.Lent.{overLimit, otherLength, tooBig, misfits, sizes, laid}
@@ -22,7 +22,8 @@ use Rattle.lent.specs.declared.Shape.the-variants.{Absent, Of}
 use Rattle.text.specs.Bytes.{bytes, same, lower, lowered, isWord}
 use Rattle.fields.specs.Split.{onto, split, all as every}
 use Rattle.fields.specs.Numerals.{digit, number, isCell, numeralRead, isNumeral}
-use Rattle.millionths.specs.Millionths.{inMillionths, millionthsOf, inRange, millionthsTable, millionthsOutcome, millionthsIn, millionthsLaid}
+use Rattle.fractions.specs.Fractions.{inRange, wholePart, leftOver, wholeAt, leftAt, sooner, rankOf}
+use Rattle.millionths.specs.Millionths.{wholeTotal, missing, millionthsAt, millionthsIn, outOfReach, millionthsLines, millionthsTable, millionthsOutcome, millionthsLaid}
 use Rattle.stats.specs.Covariance.{correlationCell, anyLow}
 use Rattle.distances.specs.Distances.{clamped, distanceOf, distanceCell, offDiagonal, square, between, betweenCell}
 use Rattle.tree.specs.Rows.{below, once, isTree}
@@ -54,7 +55,9 @@ use Rattle.inputs.specs.Inputs.{absent, rowsOfShape, otherColumns, otherSize, m
 use Rattle.arranging.specs.Arranging.{distancesIn, treeRows, treeOrder}
 use Rattle.parity.specs.Parity as parity
 use Rattle.hierarchy.specs.Hierarchy as hierarchy
+use Rattle.hrp.specs.Inner.{hrpJob}
 use Rattle.hrp.specs.Hrp as hrp
+use Rattle.hcaa.specs.Inner.{hcaaJob}
 use Rattle.hcaa.specs.Hcaa as hcaa
 use Rattle.hcaa.specs.declared.Clusters.{Clusters}
 use Rattle.hcaa.specs.declared.Clusters.the-variants.{All, Count}
@@ -156,7 +159,7 @@ trees =
 
 -- n assets of this covariance: a metric, clusters, distance and linkage
 abbrev given : ℕ → List Float → List ℕ → Clusters → Distance → Linkage → hcaa.HcaaJob
-given n cov metric k d l = hcaa.hcaaJob n [] Absent [] Absent cov (Of n n) [] false metric [] (ofBits binary64 half) k [] d l
+given n cov metric k d l = hcaaJob n [] Absent [] Absent cov (Of n n) [] false metric [] (ofBits binary64 half) k [] d l
 
 -- what a call says; then, by its outcome, the bits of the weights, their millionths, and the leaf order, in buffers of just the sizes that n assets ask
 abbrev buffers : Outcome → hcaa.HcaaJob → ℕ → List ℕ
@@ -165,7 +168,7 @@ buffers o j n =
     told o ++ (bits ws ++ (millionthsLaid ws n ++ laid 0 o n (hierarchy.hcaaOrder (j .distance) (j .linkage) (hcaa.hcaaCovariance j) n)))
 
 abbrev shared : hcaa.HcaaJob → ℕ → List ℕ
-shared j n = buffers (hcaa.hcaaOutcome j (hierarchy.hierarchyRoom (2 * (n - 1)) n n 8192)) j n
+shared j n = buffers (hcaa.hcaaOutcome j (record { rows = 2 * (n - 1); order = n; weights = n; scratch = 8192 })) j n
 
 abbrev pair : ℕ → ℕ → ℕ → List ℕ
 pair a b k = shared (given 2 (diagonal a b) (bytes "equal_weighting") (Count k) Correlation Single) 2
@@ -200,8 +203,8 @@ hcaas =
     ∷ same (job (bytes "3")) (0 ∷ quarter ∷ quarter ∷ half ∷ 250000 ∷ 250000 ∷ 500000 ∷ 2 ∷ 0 ∷ 1 ∷ [])
     -- "The job above with 2 clusters: same weights"
     ∷ same (job (bytes "2")) (0 ∷ quarter ∷ quarter ∷ half ∷ 250000 ∷ 250000 ∷ 500000 ∷ 2 ∷ 0 ∷ 1 ∷ [])
-    -- "with 1: each 3fd5555555555555, 333333 millionths."
-    ∷ same (job (bytes "1")) (0 ∷ third ∷ third ∷ third ∷ 333333 ∷ 333333 ∷ 333333 ∷ 2 ∷ 0 ∷ 1 ∷ [])
+    -- "with 1: each 3fd5555555555555"; document 02, request 3: "The 333333 figure of document 01 becomes 333334, 333333, 333333."
+    ∷ same (job (bytes "1")) (0 ∷ third ∷ third ∷ third ∷ 333334 ∷ 333333 ∷ 333333 ∷ 2 ∷ 0 ∷ 1 ∷ [])
     -- "Clusters 0 or 4: 6.", with the count asked and the assets
     ∷ same (job (bytes "0")) (6 ∷ 0 ∷ 3 ∷ p0 ∷ p0 ∷ p0 ∷ 0 ∷ 0 ∷ 0 ∷ 0 ∷ 0 ∷ 0 ∷ [])
     ∷ same (job (bytes "4")) (6 ∷ 4 ∷ 3 ∷ p0 ∷ p0 ∷ p0 ∷ 0 ∷ 0 ∷ 0 ∷ 0 ∷ 0 ∷ 0 ∷ [])
@@ -213,7 +216,7 @@ hcaas =
 -- ---- document 02, request 1: two assets of unit covariance, with rows of returns and a confidence
 
 abbrev tailed : List ℕ → ℕ → List ℕ → ℕ → Clusters → List ℕ
-tailed metric h cells q k = shared (hcaa.hcaaJob 2 [] Absent (doubles cells) (Of h 2) (diagonal one one) (Of 2 2) [] false metric [] (ofBits binary64 q) k [] Correlation Single) 2
+tailed metric h cells q k = shared (hcaaJob 2 [] Absent (doubles cells) (Of h 2) (diagonal one one) (Of 2 2) [] false metric [] (ofBits binary64 q) k [] Correlation Single) 2
 
 abbrev tails : List Bool
 tails =
@@ -234,13 +237,13 @@ tails =
 
 -- a covariance of n assets; what the call says, and the bits of the weights
 abbrev halving : Distance → ℕ → List Float → hrp.HrpJob
-halving d n cov = hrp.hrpJob n [] Absent [] Absent cov (Of n n) [] false d
+halving d n cov = hrpJob n [] Absent [] Absent cov (Of n n) [] false d
 
 abbrev weighed : Outcome → hrp.HrpJob → ℕ → List ℕ
 weighed o j n = told o ++ bits (laid pz o n (weightsIn (parity.hrpShares (j .distance) (hrp.hrpCovariance j) n)))
 
 abbrev halved : Distance → ℕ → List Float → List ℕ
-halved d n cov = weighed (hrp.hrpOutcome (halving d n cov) (parity.parityRoom (2 * (n - 1)) n n (n * n) (n * n) 8192)) (halving d n cov) n
+halved d n cov = weighed (hrp.hrpOutcome (halving d n cov) (record { rows = 2 * (n - 1); order = n; weights = n; correlations = n * n; distances = n * n; scratch = 8192 })) (halving d n cov) n
 
 abbrev hrps : Distance → List Bool
 hrps d =
@@ -273,5 +276,5 @@ table = trees ++ (hcaas ++ (tails ++ (hrps Correlation ++ (hrps DistanceOfDistan
 
 -- "The P figures are proved as one table under one claim"
 pub figures : all table ≡ true
-unfolding same lower lowered isWord childrenTable childrenOutcome childrenRows wardF updateF pairBefore near better offer look scanRow scanFrom scanAll both movable moved movedAll merged step copied start stateAt mergeRows order.orderTable order.orderOutcome order.orderLaid count below once isTree grow treeAt leaves onto split digit number isCell isNumeral numeralRead distanceNamed linkageNamed reading.clustersOf reading.isHrp reading.isHcaa reading.isName reading.isAsset reading.isJob reading.textCell reading.covarianceIn reading.distanceField reading.textLines reading.readTable reading.readOutcome reading.jobIn reading.readOf reading.covarianceLaid hcaa.hcaaReturnRows hcaa.returnColumns hcaa.hcaaReturnCells hcaa.pricesRefused hcaa.rowsMade hcaa.columnsMade hcaa.cellsMade hcaa.hcaaCovarianceBy hcaa.hcaaCovariance hcaa.metricOf hcaa.usedMetric hcaa.unnamed hcaa.isMean hcaa.isExponential hcaa.expectedOf hcaa.usedExpected hcaa.clusterCount hcaa.usedRule hcaa.nameLines hcaa.matrixRules hcaa.sharpeLines hcaa.hcaaTable hcaa.hcaaOutcome hcaa.usedInputs metricNamed isSharpe isTailRisk metricTailLines nearest.noPart tail.gain tail.rowReturn tail.tailSum tail.tailCount tail.mean tail.shortfall tail.wealth tail.higher tail.peak tail.fall tail.drawdown tail.conditionalDrawdown tail.shortfallOf tail.drawdownOf ordered.hasMinus ordered.before ordered.insert ordered.insertAll ordered.sorted nearest.wholeOf nearest.place nearest.quantile hierarchy.hcaaRows hierarchy.hcaaOrder hierarchy.hcaaShares hierarchy.hierarchyRoomLines hierarchy.shareLines allot.downShares allot.allotted allot.insideOf allot.variedOf allot.equalOf allot.spreadOf allot.dealTo sharing.splitOf sharing.scored sharing.byRisk sharing.splitBy sharing.bounded millionthsOf inMillionths inRange every millionthsTable millionthsOutcome millionthsIn millionthsLaid hrp.pricesAlone hrp.hrpReturnRows hrp.hrpReturnCells hrp.hrpCovarianceBy hrp.hrpCovariance hrp.hrpShapeLines hrp.numberLines hrp.hrpTable hrp.hrpOutcome absent rowsOfShape otherColumns otherSize matrixLines parity.correlationsOf parity.hrpDistances parity.treeDistances distancesIn treeRows treeOrder parity.hrpRows parity.hrpOrder parity.hrpShares parity.parityRoomLines parity.hrpRiskLines bisection.factorOf bisection.sidesFactor bisection.halved bisection.bisected bisection.normal bisection.bisectionShares tooBig misfits overLimit otherLength sizes laid first tab grid sumTo sumOn sumRows anyTo range span isNone weightsIn recip recipSum shares term varianceOf outside anyLowOf riskTable sizeTable sharesOutcome varianceOutcome varianceAnswer correlationCell anyLow clamped distanceOf distanceCell offDiagonal square between betweenCell minOf maxOf absOf clampOf finiteOf countOf oneOver root isqrt lt le eq isNan neg add sum sub mul div ofInt round units odd trailingZeros size ieee-span climb ofFields ofBits toBits
+unfolding same lower lowered isWord childrenTable childrenOutcome childrenRows wardF updateF pairBefore near better offer look scanRow scanFrom scanAll both movable moved movedAll merged step copied start stateAt mergeRows order.orderTable order.orderOutcome order.orderLaid count below once isTree grow treeAt leaves onto split digit number isCell isNumeral numeralRead distanceNamed linkageNamed reading.clustersOf reading.isHrp reading.isHcaa reading.isName reading.isAsset reading.isJob reading.textCell reading.covarianceIn reading.distanceField reading.textLines reading.readTable reading.readOutcome reading.jobIn reading.readOf reading.covarianceLaid hcaa.hcaaReturnRows hcaa.returnColumns hcaa.hcaaReturnCells hcaa.pricesRefused hcaa.rowsMade hcaa.columnsMade hcaa.cellsMade hcaa.hcaaCovarianceBy hcaa.hcaaCovariance hcaa.metricOf hcaa.usedMetric hcaa.unnamed hcaa.isMean hcaa.isExponential hcaa.expectedOf hcaa.usedExpected hcaa.clusterCount hcaa.usedRule hcaa.nameLines hcaa.matrixRules hcaa.sharpeLines hcaa.hcaaTable hcaa.hcaaOutcome hcaa.usedInputs metricNamed isSharpe isTailRisk metricTailLines nearest.noPart tail.gain tail.rowReturn tail.tailSum tail.tailCount tail.mean tail.shortfall tail.wealth tail.higher tail.peak tail.fall tail.drawdown tail.conditionalDrawdown tail.shortfallOf tail.drawdownOf ordered.hasMinus ordered.before ordered.insert ordered.insertAll ordered.sorted nearest.wholeOf nearest.place nearest.quantile hierarchy.hcaaRows hierarchy.hcaaOrder hierarchy.hcaaShares hierarchy.roomLines hierarchy.shareLines allot.downShares allot.allotted allot.insideOf allot.variedOf allot.equalOf allot.spreadOf allot.dealTo sharing.splitOf sharing.scored sharing.byRisk sharing.splitBy sharing.bounded inRange every millionthsTable millionthsOutcome millionthsIn millionthsLaid hrp.pricesAlone hrp.hrpReturnRows hrp.hrpReturnCells hrp.hrpCovarianceBy hrp.hrpCovariance hrp.hrpShapeLines hrp.numberLines hrp.hrpTable hrp.hrpOutcome absent rowsOfShape otherColumns otherSize matrixLines parity.correlationsOf parity.hrpDistances parity.treeDistances distancesIn treeRows treeOrder parity.hrpRows parity.hrpOrder parity.hrpShares parity.parityRoomLines parity.hrpRiskLines bisection.factorOf bisection.sidesFactor bisection.halved bisection.bisected bisection.normal bisection.bisectionShares tooBig misfits overLimit otherLength sizes laid first tab grid sumTo sumOn sumRows anyTo range span isNone weightsIn recip recipSum shares term varianceOf outside anyLowOf riskTable sizeTable sharesOutcome varianceOutcome varianceAnswer correlationCell anyLow clamped distanceOf distanceCell offDiagonal square between betweenCell minOf maxOf absOf clampOf finiteOf countOf oneOver root isqrt lt le eq isNan neg add sum sub mul div ofInt round units odd trailingZeros size ieee-span climb ofFields ofBits toBits wholePart leftOver wholeAt leftAt sooner rankOf wholeTotal missing millionthsAt outOfReach millionthsLines upto
 figures = refl

@@ -39,6 +39,7 @@ use Rattle.lent.proofs.clear_bytes_from as lent·clear-bytes-from
 use Rattle.lent.proofs.copy as lent·copy
 use Rattle.lent.proofs.over_limit as lent·over-limit
 use Rattle.lent.proofs.has_other_length as lent·has-other-length
+use Rattle.lent.proofs.shape_if as lent·shape-if
 use Rattle.lent.proofs.too_big as lent·too-big
 use Rattle.lent.proofs.is_misfit as lent·is-misfit
 use Rattle.lent.proofs.sized as lent·sized
@@ -91,13 +92,14 @@ use Rattle.metrics.proofs.is_tail_risk as metrics·is-tail-risk
 use Rattle.metrics.proofs.split_factor as metrics·split-factor
 use Rattle.sharing.proofs.allocate_down_tree as sharing·allocate-down-tree
 use Rattle.rooms.proofs.clear_all as rooms·clear-all
+use Rattle.rooms.proofs.clear_with_matrices as rooms·clear-with-matrices
 use Rattle.rooms.proofs.judge_rooms as rooms·judge-rooms
+use Rattle.rooms.proofs.judge_with_matrices as rooms·judge-with-matrices
+use Rattle.rooms.proofs.judge_square as rooms·judge-square
 use Rattle.rooms.proofs.judge_covariance as rooms·judge-covariance
 use Rattle.rooms.proofs.judge as rooms·judge
 use Rattle.arranging.proofs.arrange as arranging·arrange
 use Rattle.parity.proofs.allocate_covariance as parity·allocate-covariance
-use Rattle.admission.proofs.clear_all as admission·clear-all
-use Rattle.admission.proofs.judge_rooms as admission·judge-rooms
 use Rattle.admission.proofs.judge as admission·judge
 use Rattle.hierarchy.proofs.allocate_covariance as hierarchy·allocate-covariance
 use Rattle.inputs.proofs.is_absent as inputs·is-absent
@@ -112,10 +114,9 @@ use Rattle.listing.proofs.bytes as listing·bytes
 use Rattle.listing.proofs.sheet as listing·sheet
 use Rattle.listing.proofs.refusal_line as listing·refusal-line
 use Rattle.job.proofs.text_to_listing as job·text-to-listing
-use Rattle.millionths.proofs.millionths as millionths·millionths
+use Rattle.fractions.proofs.rank_fractions as fractions·rank-fractions
 use Rattle.millionths.proofs.weights_in_millionths as millionths·weights-in-millionths
 use Rattle.foreign.proofs.number as foreign·number
-use Rattle.foreign.proofs.shape as foreign·shape
 use Rattle.foreign.proofs.distance_said as foreign·distance-said
 use Rattle.foreign.proofs.linkage_said as foreign·linkage-said
 use Rattle.foreign.proofs.judge_hrp as foreign·judge-hrp
@@ -151,7 +152,7 @@ Four = List ℕ × (List ℕ × (List Float × (List Float × Unit {0})))
 abbrev Six : Type 0
 Six = List ℕ × (List ℕ × (List Float × (List Float × (List Float × (List Float × Unit {0})))))
 
-four-laid : {o : Outcome} {u : hierarchy.Rule} {d : Distance} {l : Linkage} {cov : List Float} {n : ℕ} {room : hierarchy.HierarchyRoom} {rows order rows′ order′ : List ℕ} {w s w′ s′ : List Float}
+four-laid : {o : Outcome} {u : hierarchy.Rule} {d : Distance} {l : Linkage} {cov : List Float} {n : ℕ} {room : hierarchy.Room} {rows order rows′ order′ : List ℕ} {w s w′ s′ : List Float}
     → hierarchy.HierarchyLaid o u d l cov n room rows order w s → hierarchy.HierarchyLaid o u d l cov n room rows′ order′ w′ s′
     → _≡_ {A = Four} (rows, (order, (w, (s, tt)))) (rows′, (order′, (w′, (s′, tt))))
 four-laid p q i =
@@ -161,8 +162,8 @@ four-laid p q i =
     let scratch = sole (p .scratch-is) (q .scratch-is) in
     (rows i, (order i, (weights i, (scratch i, tt))))
 
-four-zeros : {room : hierarchy.HierarchyRoom} {rows order rows′ order′ : List ℕ} {w s w′ s′ : List Float}
-    → hierarchy.HierarchyCleared room rows order w s → hierarchy.HierarchyCleared room rows′ order′ w′ s′
+four-zeros : {room : hierarchy.Room} {rows order rows′ order′ : List ℕ} {w s w′ s′ : List Float}
+    → hierarchy.Cleared room rows order w s → hierarchy.Cleared room rows′ order′ w′ s′
     → _≡_ {A = Four} (rows, (order, (w, (s, tt)))) (rows′, (order′, (w′, (s′, tt))))
 four-zeros p q i =
     let rows = sole (p .rows-are) (q .rows-are) in
@@ -187,12 +188,12 @@ six-zeros : {room : parity.ParityRoom} {rows order rows′ order′ : List ℕ} 
     → parity.ParityCleared room rows order w c t s → parity.ParityCleared room rows′ order′ w′ c′ t′ s′
     → _≡_ {A = Six} (rows, (order, (w, (c, (t, (s, tt)))))) (rows′, (order′, (w′, (c′, (t′, (s′, tt))))))
 six-zeros p q i =
-    let rows = sole (p .rows-are) (q .rows-are) in
-    let order = sole (p .order-is) (q .order-is) in
-    let weights = sole (p .weights-are) (q .weights-are) in
+    let rows = sole (p .shared .rows-are) (q .shared .rows-are) in
+    let order = sole (p .shared .order-is) (q .shared .order-is) in
+    let weights = sole (p .shared .weights-are) (q .shared .weights-are) in
     let correlations = sole (p .correlations-are) (q .correlations-are) in
     let distances = sole (p .distances-are) (q .distances-are) in
-    let scratch = sole (p .scratch-is) (q .scratch-is) in
+    let scratch = sole (p .shared .scratch-is) (q .shared .scratch-is) in
     (rows i, (order i, (weights i, (correlations i, (distances i, (scratch i, tt))))))
 
 -- ---- arithmetic: document 01's arithmetic on doubles
@@ -281,6 +282,9 @@ lent-over-limit κs a r r′ e e′ p q = (sole p q, refl)
 
 pub lent-has-other-length : Sole lent·has-other-length.ended lent·has-other-length.Reads.Post
 lent-has-other-length κs a r r′ e e′ p q = (sole p q, refl)
+
+pub lent-shape-if : Sole lent·shape-if.ended lent·shape-if.Reads.Post
+lent-shape-if κs a r r′ e e′ p q = (sole p q, refl)
 
 pub lent-too-big : Sole lent·too-big.ended lent·too-big.Reads.Post
 lent-too-big κs a r r′ e e′ p q = (sole p q, refl)
@@ -466,10 +470,19 @@ sharing-allocate-down-tree κs a r r′ e e′ p q = (sole (p .0) (q .0), kept5 
 -- ---- parity: HRP on a covariance
 
 pub rooms-clear-all : Sole rooms·clear-all.ended rooms·clear-all.Reads.Post
-rooms-clear-all κs a r r′ e e′ p q = (refl, six-zeros p q)
+rooms-clear-all κs a r r′ e e′ p q = (refl, four-zeros p q)
+
+pub rooms-clear-with-matrices : Sole rooms·clear-with-matrices.ended rooms·clear-with-matrices.Reads.Post
+rooms-clear-with-matrices κs a r r′ e e′ p q = (refl, six-zeros p q)
 
 pub rooms-judge-rooms : Sole rooms·judge-rooms.ended rooms·judge-rooms.Reads.Post
 rooms-judge-rooms κs a r r′ e e′ p q = (sole p q, refl)
+
+pub rooms-judge-with-matrices : Sole rooms·judge-with-matrices.ended rooms·judge-with-matrices.Reads.Post
+rooms-judge-with-matrices κs a r r′ e e′ p q = (sole p q, refl)
+
+pub rooms-judge-square : Sole rooms·judge-square.ended rooms·judge-square.Reads.Post
+rooms-judge-square κs a r r′ e e′ p q = (sole p q, refl)
 
 pub rooms-judge-covariance : Sole rooms·judge-covariance.ended rooms·judge-covariance.Reads.Post
 rooms-judge-covariance κs a r r′ e e′ p q = (sole p q, refl)
@@ -484,12 +497,6 @@ pub parity-allocate-covariance : Sole parity·allocate-covariance.ended parity·
 parity-allocate-covariance κs a r r′ e e′ p q = (sole (p .answer) (q .answer), λ i. (tt, (tt, (tt, (tt, six-laid (p .buffers) (q .buffers) i)))))
 
 -- ---- hierarchy: HCAA on a covariance
-
-pub admission-clear-all : Sole admission·clear-all.ended admission·clear-all.Reads.Post
-admission-clear-all κs a r r′ e e′ p q = (refl, four-zeros p q)
-
-pub admission-judge-rooms : Sole admission·judge-rooms.ended admission·judge-rooms.Reads.Post
-admission-judge-rooms κs a r r′ e e′ p q = (sole p q, refl)
 
 pub admission-judge : Sole admission·judge.ended admission·judge.Reads.Post
 admission-judge κs a r r′ e e′ p q = (sole p q, refl)
@@ -527,10 +534,10 @@ hrp-allocate κs a r r′ e e′ p q = (sole (p .answer) (q .answer), kept5 (kep
 pub hcaa-allocate : Sole hcaa·allocate.ended hcaa·allocate.Reads.Post
 hcaa-allocate κs a r r′ e e′ p q = (sole (p .answer) (q .answer), kept5 (kept5 (kept5 (λ i. (tt, four-laid (p .buffers) (q .buffers) i)))))
 
--- ---- millionths: weights in millionths
+-- ---- fractions, millionths: weights in millionths
 
-pub millionths-millionths : Sole millionths·millionths.ended millionths·millionths.Reads.Post
-millionths-millionths κs a r r′ e e′ p q = (sole p q, refl)
+pub fractions-rank-fractions : Sole fractions·rank-fractions.ended fractions·rank-fractions.Reads.Post
+fractions-rank-fractions κs a r r′ e e′ p q = (sole (p .0) (q .0), λ i. (tt, (sole (p .1 .0) (q .1 .0) i, (sole (p .1 .1) (q .1 .1) i, tt))))
 
 pub millionths-weights-in-millionths : Sole millionths·weights-in-millionths.ended millionths·weights-in-millionths.Reads.Post
 millionths-weights-in-millionths κs a r r′ e e′ p q = (sole (p .0) (q .0), λ i. (tt, (sole (p .1) (q .1) i, tt)))
@@ -555,9 +562,6 @@ job-text-to-listing κs a r r′ e e′ p q = (sole (p .made .answer) (q .made .
 
 pub foreign-number : Sole foreign·number.ended foreign·number.Reads.Post
 foreign-number κs a r r′ e e′ p q = (sole p q, refl)
-
-pub foreign-shape : Sole foreign·shape.ended foreign·shape.Reads.Post
-foreign-shape κs a r r′ e e′ p q = (sole p q, refl)
 
 pub foreign-distance-said : Sole foreign·distance-said.ended foreign·distance-said.Reads.Post
 foreign-distance-said κs a r r′ e e′ p q = (sole p q, refl)

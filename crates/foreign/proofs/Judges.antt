@@ -2,6 +2,7 @@
 use Prim.Native.Nat.{ℕ, suc, _-_, _*_, _<_, _≤_}
 use mathlib.Core.Path.{_≡_, refl, ap, _∙_}
 use mathlib.Core.Bool.{Bool, true, false, cond}
+use mathlib.Core.Logic.{⊎-elim}
 use mathlib.Core.List.{List, [], _∷_, _++_}
 use native.Mathlib.Omega.{arith}
 use borrow.Author.Tests.{lt-ltb, le-ltb}
@@ -10,10 +11,11 @@ use lib.ListN.{length, getD, set, length-replicate}
 use Rattle.refusal.specs.Refusal.{valuesOf}
 use Rattle.refusal.specs.Table.{Line, first, orElse, andThen}
 use Rattle.refusal.specs.declared.Refusal.{Refusal}
-use Rattle.refusal.specs.declared.Refusal.the-variants.{NoData, UnknownAllocationMetric, DimensionMismatch, MissingExpectedReturnsForSharpe, UnknownReturns, InvalidNumClusters, UnknownDistance, UnknownLinkage, OverLimit, SliceLength, ShortBuffer, WeightOutOfRange, NoTree, MalformedText, MissingReturnsForTailRisk, ConfidenceOutOfRange}
+use Rattle.refusal.specs.declared.Refusal.the-variants.{ShortBuffer}
 use Rattle.refusal.specs.declared.Outcome.{Outcome}
 use Rattle.refusal.specs.declared.Outcome.the-variants.{Done, Refused}
 use Rattle.refusal.proofs.Tables.{first-append}
+use Rattle.refusal.proofs.Numbers.{number-some, no-values-or-two}
 use Rattle.lent.specs.Grid.{noughts}
 use Rattle.lent.specs.Lent.{sizes}
 use Rattle.linkage.specs.Names.{linkageNamed}
@@ -33,22 +35,11 @@ no-values n = ap noughts (let e : n ≡ n - 0 = omega arith in e)
 
 -- refusal 6 has two values, and no other refusal has any
 values-put : (m : ℕ) (r : Refusal) → set (set (noughts (suc (suc m))) 0 (getD (valuesOf r) 0 0)) 1 (getD (valuesOf r) 1 0) ≡ valuesOf r ++ noughts (suc (suc m) - length (valuesOf r))
-values-put m NoData = no-values (suc (suc m))
-values-put m UnknownAllocationMetric = no-values (suc (suc m))
-values-put m DimensionMismatch = no-values (suc (suc m))
-values-put m MissingExpectedReturnsForSharpe = no-values (suc (suc m))
-values-put m UnknownReturns = no-values (suc (suc m))
-values-put m (InvalidNumClusters k n) = ap (λ x. k ∷ n ∷ noughts x) (let e : m ≡ suc (suc m) - 2 = omega arith in e)
-values-put m UnknownDistance = no-values (suc (suc m))
-values-put m UnknownLinkage = no-values (suc (suc m))
-values-put m OverLimit = no-values (suc (suc m))
-values-put m SliceLength = no-values (suc (suc m))
-values-put m ShortBuffer = no-values (suc (suc m))
-values-put m WeightOutOfRange = no-values (suc (suc m))
-values-put m NoTree = no-values (suc (suc m))
-values-put m MalformedText = no-values (suc (suc m))
-values-put m MissingReturnsForTailRisk = no-values (suc (suc m))
-values-put m ConfidenceOutOfRange = no-values (suc (suc m))
+values-put m r =
+    ⊎-elim
+    (λ e. rw e (no-values (suc (suc m))))
+    (λ v. rw (v .1 .1) (ap (λ x. v .0 ∷ v .1 .0 ∷ noughts x) (let e : m ≡ suc (suc m) - 2 = omega arith in e)))
+    (no-values-or-two r)
 
 pub blank-length : (room : ℕ) (blank : List ℕ) → blank ≡ noughts room → length blank ≡ room
 blank-length room blank z = ap length z ∙ length-replicate {A = ℕ} room 0
@@ -75,24 +66,6 @@ module _ (room : ℕ) (said : Outcome) (blank : List ℕ) (z : blank ≡ noughts
       rw (e, le-ltb room 2 long, z, ex, ey, m) (values-put (room - 2) k)
 
 -- a number that is 0 is no refusal's
-number-some : (r : Refusal) → numberIn (Refused r) ≡ 0 → ⊥
-number-some NoData e = omega arith
-number-some UnknownAllocationMetric e = omega arith
-number-some DimensionMismatch e = omega arith
-number-some MissingExpectedReturnsForSharpe e = omega arith
-number-some UnknownReturns e = omega arith
-number-some (InvalidNumClusters k n) e = omega arith
-number-some UnknownDistance e = omega arith
-number-some UnknownLinkage e = omega arith
-number-some OverLimit e = omega arith
-number-some SliceLength e = omega arith
-number-some ShortBuffer e = omega arith
-number-some WeightOutOfRange e = omega arith
-number-some NoTree e = omega arith
-number-some MalformedText e = omega arith
-number-some MissingReturnsForTailRisk e = omega arith
-number-some ConfidenceOutOfRange e = omega arith
-
 pub number-done : (o : Outcome) → numberIn o ≡ 0 → o ≡ Done
 number-done Done e = refl
 number-done (Refused r) e = absurd (number-some r e)

@@ -1,8 +1,8 @@
 -- The C interface: what a call hands in as numbers, flags, names and sizes, and what it is refused for before the call behind it is made. Definitions only.
 use Prim.Native.Nat.{ℕ, _-_, _*_}
-use mathlib.Core.Bool.{Bool, not, cond}
+use mathlib.Core.Bool.{cond}
 use mathlib.Core.List.{List, [], _∷_, _++_}
-use lib.Dec.{ltb, eqb}
+use lib.Dec.{ltb}
 use lib.ListN.{length}
 use Rattle.refusal.specs.Table.{Line}
 use Rattle.refusal.specs.Telling.{outcomeTells}
@@ -11,8 +11,6 @@ use Rattle.refusal.specs.declared.Outcome.{Outcome}
 use Rattle.refusal.specs.declared.Outcome.the-variants as outcome
 use Rattle.lent.specs.Grid.{noughts}
 use Rattle.lent.specs.Lent.{most-assets, sizes}
-use Rattle.lent.specs.declared.Shape.{Shape}
-use Rattle.lent.specs.declared.Shape.the-variants.{Absent, Of}
 use Rattle.linkage.specs.declared.Distance.{Distance}
 use Rattle.linkage.specs.declared.Distance.the-variants.{Correlation}
 use Rattle.linkage.specs.declared.Linkage.{Linkage}
@@ -22,16 +20,6 @@ use Rattle.linkage.specs.declared.NamedDistance.the-variants as distance
 use Rattle.linkage.specs.declared.NamedLinkage.{NamedLinkage}
 use Rattle.linkage.specs.declared.NamedLinkage.the-variants as linkage
 use Rattle.reading.specs.Reading.{most-bytes}
-
--- ---- numbers and flags. "Each refusal returns its number", and 0 where the job is accepted: what its outcome tells
-
--- a flag is false where it is 0
-abbrev pub isSet : ℕ → Bool
-isSet flag = not (eqb flag 0)
-
--- "An absent matrix differs from one with 0 rows": a flag says whether it is given
-unfoldable pub shapeOf : ℕ → ℕ → ℕ → Shape
-shapeOf given rows w = cond (isSet given) (Of rows w) Absent
 
 -- ---- names: "unknown distance, unknown linkage name (any case)"
 

@@ -12,10 +12,9 @@ ghost use Rattle.refusal.specs.Table.{first, andThen};
 ghost use Rattle.refusal.specs.Telling.{outcomeTells};
 ghost use Rattle.inputs.specs.Inputs.{matrixLines};
 ghost use Rattle.linkage.specs.Names.{distanceNamed, linkageNamed};
-ghost use Rattle.rooms.specs.Rooms.{parityRoom, parityRoomLines};
-ghost use Rattle.admission.specs.Admission.{hierarchyRoom, hierarchyRoomLines};
+ghost use Rattle.rooms.specs.Rooms.{roomLines, parityRoomLines};
 ghost use Rattle.listing.specs.Listing.{listedTells};
-ghost use Rattle.foreign.specs.Foreign.{shapeOf, distanceSays, linkageSays, askedLines, askedLaid, mergeSizes, leafSizes, byteLines};
+ghost use Rattle.foreign.specs.Foreign.{distanceSays, linkageSays, askedLines, askedLaid, mergeSizes, leafSizes, byteLines};
 
 // The refusal's number, or 0.
 pub fn number(said: Outcome) -> u8
@@ -25,16 +24,6 @@ pub fn number(said: Outcome) -> u8
         Outcome::Done => 0,
         Outcome::Refused(r) => refusal::number(r),
     }
-}
-
-// A matrix that is given has its sizes.
-pub fn shape(given: u8, rows: usize, columns: usize) -> Shape
-    ensures { λ r. ⌜ r ≡ shapeOf given rows columns ⌝ }
-{
-    if given == 0 {
-        return Shape::Absent;
-    }
-    Shape::Of { rows, columns }
 }
 
 // Whether a name is known: its refusal where not.
@@ -75,7 +64,8 @@ pub fn judge_hrp(
 ) -> Outcome
     ensures { λ r. ⌜ r ≡
         andThen (first (matrixLines n prices «prices_len» returns «returns_len» covariance «covariance_len»))
-        (andThen (first (parityRoomLines n (parityRoom rows order weights correlations distances scratch)))
+        (andThen (first (parityRoomLines n
+        (record { rows = rows; order = order; weights = weights; correlations = correlations; distances = distances; scratch = scratch })))
         (distanceSays (distanceNamed (now (name .entry))))) ⌝ }
 {
     let matrices = inputs::judge_matrices(
@@ -87,7 +77,15 @@ pub fn judge_hrp(
         covariance,
         covariance_len,
     );
-    let rooms = rooms::judge_rooms(n, rows, order, weights, correlations, distances, scratch);
+    let rooms = rooms::judge_with_matrices(
+        n,
+        rows,
+        order,
+        weights,
+        correlations,
+        distances,
+        scratch,
+    );
     refusal::and_then(matrices, refusal::and_then(rooms, distance_said(name)))
 }
 
@@ -127,7 +125,7 @@ pub fn judge_hcaa(
 ) -> Outcome
     ensures { λ r. ⌜ r ≡
         andThen (first (matrixLines n prices «prices_len» returns «returns_len» covariance «covariance_len»))
-        (andThen (first (hierarchyRoomLines n (hierarchyRoom rows order weights scratch)))
+        (andThen (first (roomLines n (record { rows = rows; order = order; weights = weights; scratch = scratch })))
         (andThen (first (askedLines asked))
         (andThen (linkageSays (linkageNamed (now (link .entry)))) (distanceSays (distanceNamed (now (name .entry))))))) ⌝ }
 {
@@ -140,7 +138,7 @@ pub fn judge_hcaa(
         covariance,
         covariance_len,
     );
-    let rooms = admission::judge_rooms(n, rows, order, weights, scratch);
+    let rooms = rooms::judge_rooms(n, rows, order, weights, scratch);
     let names = refusal::and_then(linkage_said(link), distance_said(name));
     let rest = refusal::refuse(asked < 2, Refusal::ShortBuffer, names);
     refusal::and_then(matrices, refusal::and_then(rooms, rest))

@@ -4,14 +4,14 @@ use borrow.Author.Needs.{needs}
 use Rattle.capi.proofs.rovignesc_hcaa.Statement.{statement}
 use Rattle.capi.proofs.rovignesc_hcaa.Tie as tie
 
-shape-requires : tie.Need-shape-requires
-shape-requires c κs = search needs
+shape-if-requires : tie.Need-shape-if-requires
+shape-if-requires c κs = search needs
 
-shape-requires-2 : tie.Need-shape-requires-2
-shape-requires-2 c κs = search needs
+shape-if-requires-2 : tie.Need-shape-if-requires-2
+shape-if-requires-2 c κs = search needs
 
-shape-requires-3 : tie.Need-shape-requires-3
-shape-requires-3 c κs = search needs
+shape-if-requires-3 : tie.Need-shape-if-requires-3
+shape-if-requires-3 c κs = search needs
 
 judge-hcaa-requires : tie.Need-judge-hcaa-requires
 judge-hcaa-requires c κs = search needs
@@ -47,9 +47,9 @@ returns : tie.Need-returns
 returns c =
     let told = c .before .before .before .before .before .before .before .before .before .before .before .before .before .before .before .before .before in
     let said = told .before .before in
-    let p = said .before .before .before .shape .ensures in
-    let x = said .before .before .shape2 .ensures in
-    let v = said .before .shape3 .ensures in
+    let p = said .before .before .before .shape-if .ensures in
+    let x = said .before .before .shape-if2 .ensures in
+    let v = said .before .shape-if3 .ensures in
     let t = c .before .before .tell .ensures in
     hcaa-refused _ _ _ _ p _ _ _ x _ _ _ v _ _ _ _ _ _ _ _ _ _ _ _ (said .judge-hcaa .ensures) _ _ _ _ _ _ _ (told .enum-told2 .given .1) (t .0) (t .1) (c .before .before .before .before .before .before .before .before .before .before .before .before .clear-all .ensures)
 
@@ -91,9 +91,9 @@ returns-2 c =
     let k = d .before in
     let told = k .before in
     let said = told .before .before in
-    let p = said .before .before .before .shape .ensures in
-    let x = said .before .before .shape2 .ensures in
-    let v = said .before .shape3 .ensures in
+    let p = said .before .before .before .shape-if .ensures in
+    let x = said .before .before .shape-if2 .ensures in
+    let v = said .before .shape-if3 .ensures in
     let t = c .before .before .tell2 .ensures in
     hcaa-done _ _ _ _ p _ _ _ x _ _ _ v _ _ _ _ _ _ _ _ _ _ _ _ (said .judge-hcaa .ensures) _ _ _ _ _ _ (told .enum-told .given .1) _ (k .clusters-in .ensures) _ (d .distance-in .ensures) _ (l .linkage-in .ensures) _ (t .0) (t .1) (made .allocate .ensures)
 
@@ -101,9 +101,9 @@ pub rovignesc-hcaa-spec : {M : Type 1} → statement M
 rovignesc-hcaa-spec =
     tie.close
     (tie.spec
-    shape-requires
-    shape-requires-2
-    shape-requires-3
+    shape-if-requires
+    shape-if-requires-2
+    shape-if-requires-3
     judge-hcaa-requires
     enum-told
     enum-told-2

@@ -4,14 +4,14 @@ use borrow.Author.Needs.{needs}
 use Rattle.capi.proofs.rovignesc_hrp.Statement.{statement}
 use Rattle.capi.proofs.rovignesc_hrp.Tie as tie
 
-shape-requires : tie.Need-shape-requires
-shape-requires c κs = search needs
+shape-if-requires : tie.Need-shape-if-requires
+shape-if-requires c κs = search needs
 
-shape-requires-2 : tie.Need-shape-requires-2
-shape-requires-2 c κs = search needs
+shape-if-requires-2 : tie.Need-shape-if-requires-2
+shape-if-requires-2 c κs = search needs
 
-shape-requires-3 : tie.Need-shape-requires-3
-shape-requires-3 c κs = search needs
+shape-if-requires-3 : tie.Need-shape-if-requires-3
+shape-if-requires-3 c κs = search needs
 
 judge-hrp-requires : tie.Need-judge-hrp-requires
 judge-hrp-requires c κs = search needs
@@ -22,38 +22,38 @@ enum-told c = search needs
 enum-told-2 : tie.Need-enum-told-2
 enum-told-2 c = search needs
 
-clear-all-requires : tie.Need-clear-all-requires
-clear-all-requires c κs = search needs
+clear-with-matrices-requires : tie.Need-clear-with-matrices-requires
+clear-with-matrices-requires c κs = search needs
 
 number-requires : tie.Need-number-requires
 number-requires c κs = search needs
 
 same-length : tie.Need-same-length
-same-length c = c .before .before .before .before .before .before .before .before .before .before .before .before .before .clear-all .kept .0
+same-length c = c .before .before .before .before .before .before .before .before .before .before .before .before .before .clear-with-matrices .kept .0
 
 same-length-2 : tie.Need-same-length-2
-same-length-2 c = c .before .before .before .before .before .before .before .before .before .before .before .before .before .clear-all .kept .1 .0
+same-length-2 c = c .before .before .before .before .before .before .before .before .before .before .before .before .before .clear-with-matrices .kept .1 .0
 
 same-length-3 : tie.Need-same-length-3
-same-length-3 c = c .before .before .before .before .before .before .before .before .before .before .before .before .before .clear-all .kept .1 .1 .0
+same-length-3 c = c .before .before .before .before .before .before .before .before .before .before .before .before .before .clear-with-matrices .kept .1 .1 .0
 
 same-length-4 : tie.Need-same-length-4
-same-length-4 c = c .before .before .before .before .before .before .before .before .before .before .before .before .before .clear-all .kept .1 .1 .1 .0
+same-length-4 c = c .before .before .before .before .before .before .before .before .before .before .before .before .before .clear-with-matrices .kept .1 .1 .1 .0
 
 same-length-5 : tie.Need-same-length-5
-same-length-5 c = c .before .before .before .before .before .before .before .before .before .before .before .before .before .clear-all .kept .1 .1 .1 .1 .0
+same-length-5 c = c .before .before .before .before .before .before .before .before .before .before .before .before .before .clear-with-matrices .kept .1 .1 .1 .1 .0
 
 same-length-6 : tie.Need-same-length-6
-same-length-6 c = c .before .before .before .before .before .before .before .before .before .before .before .before .before .clear-all .kept .1 .1 .1 .1 .1 .0
+same-length-6 c = c .before .before .before .before .before .before .before .before .before .before .before .before .before .clear-with-matrices .kept .1 .1 .1 .1 .1 .0
 
 returns : tie.Need-returns
 returns c =
-    let p = c .before .before .before .before .before .before .before .before .before .before .before .before .before .before .before .before .before .before .before .before .before .before .before .before .before .shape .ensures in
-    let x = c .before .before .before .before .before .before .before .before .before .before .before .before .before .before .before .before .before .before .before .before .before .before .before .before .shape2 .ensures in
-    let v = c .before .before .before .before .before .before .before .before .before .before .before .before .before .before .before .before .before .before .before .before .before .before .before .shape3 .ensures in
+    let p = c .before .before .before .before .before .before .before .before .before .before .before .before .before .before .before .before .before .before .before .before .before .before .before .before .before .shape-if .ensures in
+    let x = c .before .before .before .before .before .before .before .before .before .before .before .before .before .before .before .before .before .before .before .before .before .before .before .before .shape-if2 .ensures in
+    let v = c .before .before .before .before .before .before .before .before .before .before .before .before .before .before .before .before .before .before .before .before .before .before .before .shape-if3 .ensures in
     let e = c .before .before .before .before .before .before .before .before .before .before .before .before .before .before .before .before .before .before .before .before .before .before .judge-hrp .ensures in
     let h = c .before .before .before .before .before .before .before .before .before .before .before .before .before .before .before .before .before .before .before .before .enum-told2 .given .1 in
-    hrp-refused _ _ _ _ p _ _ _ x _ _ _ v _ _ _ _ _ e _ _ _ _ _ _ _ _ h (c .number .ensures) (c .before .before .before .before .before .before .before .before .before .before .before .before .before .clear-all .ensures)
+    hrp-refused _ _ _ _ p _ _ _ x _ _ _ v _ _ _ _ _ e _ _ _ _ _ _ _ _ h (c .number .ensures) (c .before .before .before .before .before .before .before .before .before .before .before .before .before .clear-with-matrices .ensures)
 
 distance-in-requires : tie.Need-distance-in-requires
 distance-in-requires c κs = search needs
@@ -84,9 +84,9 @@ same-length-12 c = c .before .before .before .before .before .before .before .be
 
 returns-2 : tie.Need-returns-2
 returns-2 c =
-    let p = c .before .before .before .before .before .before .before .before .before .before .before .before .before .before .before .before .before .before .before .before .before .before .before .before .before .before .shape .ensures in
-    let x = c .before .before .before .before .before .before .before .before .before .before .before .before .before .before .before .before .before .before .before .before .before .before .before .before .before .shape2 .ensures in
-    let v = c .before .before .before .before .before .before .before .before .before .before .before .before .before .before .before .before .before .before .before .before .before .before .before .before .shape3 .ensures in
+    let p = c .before .before .before .before .before .before .before .before .before .before .before .before .before .before .before .before .before .before .before .before .before .before .before .before .before .before .shape-if .ensures in
+    let x = c .before .before .before .before .before .before .before .before .before .before .before .before .before .before .before .before .before .before .before .before .before .before .before .before .before .shape-if2 .ensures in
+    let v = c .before .before .before .before .before .before .before .before .before .before .before .before .before .before .before .before .before .before .before .before .before .before .before .before .shape-if3 .ensures in
     let e = c .before .before .before .before .before .before .before .before .before .before .before .before .before .before .before .before .before .before .before .before .before .before .before .judge-hrp .ensures in
     let h = c .before .before .before .before .before .before .before .before .before .before .before .before .before .before .before .before .before .before .before .before .before .enum-told .given .1 in
     hrp-done _ _ _ _ p _ _ _ x _ _ _ v _ _ _ _ _ e _ _ _ _ _ _ _ h _ (c .number2 .ensures) (rw (c .before .before .before .before .before .before .before .before .before .before .before .before .before .before .before .before .before .before .before .before .distance-in .ensures) at (c .before .before .before .before .before .before .before .before .before .before .before .before .before .allocate .ensures))
@@ -95,13 +95,13 @@ pub rovignesc-hrp-spec : {M : Type 1} → statement M
 rovignesc-hrp-spec =
     tie.close
     (tie.spec
-    shape-requires
-    shape-requires-2
-    shape-requires-3
+    shape-if-requires
+    shape-if-requires-2
+    shape-if-requires-3
     judge-hrp-requires
     enum-told
     enum-told-2
-    clear-all-requires
+    clear-with-matrices-requires
     number-requires
     same-length
     same-length-2
