@@ -1,5 +1,5 @@
 #!/usr/bin/env python3
-"""Makes the listings that the program `sheets` must print, from document 01's words (and document 02's request 1) alone.
+"""Makes the listings that the program `sheets` must print, from document 01's words (and document 02's requests 1 and 3) alone.
 
     oracle/sheets.py            reads crates/sheets/stdin and writes crates/sheets/stdout
     oracle/sheets.py --check    writes nothing: ends with status 1 where crates/sheets/stdout is not what it makes
@@ -14,6 +14,7 @@ import math
 import os
 import struct
 import sys
+from fractions import Fraction
 
 EPSILON = 2.0 ** -52
 NAN = struct.unpack(">d", bytes.fromhex("7ff8000000000000"))[0]
@@ -270,12 +271,19 @@ def read(text):
     return first, [name for name, *_ in assets], cov
 
 
-def millionths(weight):
-    """"the whole part of its exact value times 1,000,000; -0 is 0"."""
-    if not 0 <= weight <= 1:
+def millionths(weights):
+    """"the whole part of its exact value times 1,000,000; -0 is 0"; then request 3: "give one more millionth each to the assets with the largest fractions
+    left over, the lower asset number first on a tie, until the total is 1,000,000"."""
+    if not all(0 <= weight <= 1 for weight in weights):
         raise Refused(13)
-    numerator, denominator = weight.as_integer_ratio()
-    return numerator * 1000000 // denominator
+    exact = [Fraction(weight) * 1000000 for weight in weights]
+    whole = [math.floor(x) for x in exact]
+    missing = 1000000 - sum(whole)
+    if not 0 <= missing <= len(weights):
+        raise Refused(18)
+    for asset in sorted(range(len(weights)), key=lambda i: whole[i] - exact[i])[:missing]:  # sorted keeps the lower number first on a tie
+        whole[asset] += 1
+    return whole
 
 
 def listing(text):
@@ -290,7 +298,7 @@ def listing(text):
         weights, order = hrp(cov, by)
     else:
         weights, order = hcaa(cov, first[1].decode("latin-1"), linkage, by, None if first[4] == b"-" else int(first[4]))
-    lines = [b"\t".join((name, bits(w).encode(), b"%d" % millionths(w))) for name, w in zip(names, weights)]
+    lines = [b"\t".join((name, bits(w).encode(), b"%d" % m)) for name, w, m in zip(names, weights, millionths(weights))]
     return b"".join(line + b"\n" for line in lines) + b"\t".join([b"order"] + [names[i] for i in order]) + b"\n"
 
 

@@ -1,6 +1,7 @@
 //! Document 01's job text and listing, read and written here from its words alone, and the source's allocators between.
 use nalgebra::DMatrix;
 use openquant::api::{self, Account, Distance, HcaaAccount, Linkage};
+use std::cmp::Ordering;
 
 /// "Text of at most 65,536 bytes (else 9)".
 const MOST_BYTES: usize = 65_536;
@@ -134,24 +135,64 @@ fn allocated(job: &Job) -> Result<Answer, u8> {
     }
 }
 
-/// "the whole part of its exact value times 1,000,000; −0 is 0"; 13 where it "is NaN, below 0 or above 1".
-fn millionths(weight: f64) -> Result<u32, u8> {
+/// A weight's exact value times 1,000,000: its whole part, and the fraction left over, which is digits times 2 to the power of -down.
+struct Exact {
+    whole: u32,
+    digits: u128,
+    down: u32,
+}
+
+/// 13 where the weight "is NaN, below 0 or above 1".
+fn exact(weight: f64) -> Result<Exact, u8> {
     if !(0.0..=1.0).contains(&weight) {
         return Err(13);
     }
     let (exponent, fraction) = ((weight.to_bits() >> 52 & 0x7ff) as u32, weight.to_bits() & ((1 << 52) - 1));
-    // The weight is digits times 2 to the power of -down.
-    let (digits, down) = if exponent == 0 { (fraction, 1074) } else { (fraction | 1 << 52, 1075 - exponent) };
-    let times = digits as u128 * 1_000_000;
-    Ok(if down < 128 { (times >> down) as u32 } else { 0 })
+    // The weight is mantissa times 2 to the power of -down.
+    let (mantissa, down) = if exponent == 0 { (fraction, 1074) } else { (fraction | 1 << 52, 1075 - exponent) };
+    let times = mantissa as u128 * 1_000_000;
+    if down >= 128 {
+        return Ok(Exact { whole: 0, digits: times, down });
+    }
+    Ok(Exact { whole: (times >> down) as u32, digits: times & ((1 << down) - 1), down })
+}
+
+/// Which of two fractions is larger: by the place of the highest binary digit, then by the digits.
+fn compared(a: &Exact, b: &Exact) -> Ordering {
+    let high = |x: &Exact| if x.digits == 0 { i32::MIN } else { 128 - x.digits.leading_zeros() as i32 - x.down as i32 };
+    high(a).cmp(&high(b)).then_with(|| {
+        let shared = a.down.min(b.down);
+        let (up_a, up_b) = (b.down - shared, a.down - shared);
+        (a.digits << up_a.min(127)).cmp(&(b.digits << up_b.min(127)))
+    })
+}
+
+/// "the whole part of its exact value times 1,000,000; −0 is 0"; document 02, request 3: "give one more millionth each to the assets with the largest
+/// fractions left over, the lower asset number first on a tie, until the total is 1,000,000"; "18, after 13, when the missing amount is below 0 or above
+/// the asset count".
+fn millionths(weights: &[f64]) -> Result<Vec<u32>, u8> {
+    let parts = weights.iter().map(|&weight| exact(weight)).collect::<Result<Vec<_>, _>>()?;
+    let mut whole: Vec<u32> = parts.iter().map(|part| part.whole).collect();
+    let total: u32 = whole.iter().sum();
+    let missing = 1_000_000u32.checked_sub(total).ok_or(18)? as usize;
+    if missing > weights.len() {
+        return Err(18);
+    }
+    let mut assets: Vec<usize> = (0..weights.len()).collect();
+    assets.sort_by(|&i, &j| compared(&parts[j], &parts[i])); // a stable sort: the lower number first on a tie
+    for &asset in &assets[..missing] {
+        whole[asset] += 1;
+    }
+    Ok(whole)
 }
 
 /// "name, weight bits, millionths, then the leaf order".
 fn listed(job: &Job, answer: &Answer) -> Result<Vec<u8>, u8> {
     let mut out = Vec::with_capacity(LISTING_ROOM);
-    for (name, &weight) in job.names.iter().zip(&answer.weights) {
+    let parts = millionths(&answer.weights)?;
+    for (name, (weight, part)) in job.names.iter().zip(answer.weights.iter().zip(parts)) {
         out.extend_from_slice(name);
-        out.extend_from_slice(format!("\t{:016x}\t{}\n", weight.to_bits(), millionths(weight)?).as_bytes());
+        out.extend_from_slice(format!("\t{:016x}\t{part}\n", weight.to_bits()).as_bytes());
     }
     out.extend_from_slice(b"order");
     for &asset in &answer.order {
@@ -172,7 +213,7 @@ pub fn refusal_line(number: u8) -> Vec<u8> {
     format!("refused\t{number}\n").into_bytes()
 }
 
-/// "Order: 9, 15, 8, 7, the allocator's, 13", with 11 after 9. The number, or 0, and the listing: a refused text has none.
+/// "Order: 9, 15, 8, 7, the allocator's, 13", and document 02's 18, with 11 after 9. The number, or 0, and the listing: a refused text has none.
 pub fn listing(text: &[u8], room: usize, count_room: usize) -> (u8, Vec<u8>) {
     if text.len() > MOST_BYTES {
         return (9, Vec::new());
@@ -208,8 +249,8 @@ C\t0000000000000000\t0000000000000000\t3ff0000000000000
         let due = "A\t3fd0000000000000\t250000\nB\t3fd0000000000000\t250000\nC\t3fe0000000000000\t500000\norder\tC\tA\tB\n";
         assert_eq!(worked("-"), (0, due.into()));
         assert_eq!(worked("2"), (0, due.into()));
-        let third = "3fd5555555555555\t333333";
-        assert_eq!(worked("1"), (0, format!("A\t{third}\nB\t{third}\nC\t{third}\norder\tC\tA\tB\n")));
+        let third = "3fd5555555555555";
+        assert_eq!(worked("1"), (0, format!("A\t{third}\t333334\nB\t{third}\t333333\nC\t{third}\t333333\norder\tC\tA\tB\n")));
         assert_eq!(worked("0"), (6, String::new()));
         assert_eq!(worked("4"), (6, String::new()));
         assert_eq!(worked("0000000002"), (15, String::new()));
@@ -217,13 +258,28 @@ C\t0000000000000000\t0000000000000000\t3ff0000000000000
 
     #[test]
     fn weights_in_millionths() {
-        for (weight, due) in [(0.0, Ok(0)), (-0.0, Ok(0)), (1.0, Ok(1_000_000)), (0.25, Ok(250_000)), (5e-324, Ok(0)), (1e-6, Ok(0))] {
-            assert_eq!(millionths(weight), due);
+        let tiny = f64::from_bits(1);
+        let below = f64::from_bits(1f64.to_bits() - 1);
+        let twice = f64::from_bits(2);
+        for (weights, due) in [
+            (vec![1.0], vec![1_000_000]),
+            (vec![-0.0, 1.0], vec![0, 1_000_000]),
+            (vec![0.25, 0.25, 0.5], vec![250_000, 250_000, 500_000]),
+            (vec![1.0 / 3.0; 3], vec![333_334, 333_333, 333_333]),
+            (vec![1.0 / 3.0, 2.0 / 3.0], vec![333_333, 666_667]),
+            (vec![tiny, below], vec![0, 1_000_000]),
+            (vec![tiny, twice, 0.999_999], vec![0, 1, 999_999]),
+            (vec![0.999_998, 1e-6, twice, twice], vec![999_999, 1, 0, 0]),
+            (vec![1.0 / 7.0; 7], vec![142_858, 142_857, 142_857, 142_857, 142_857, 142_857, 142_857]),
+            (vec![1.0 / 64.0; 64], vec![15_625; 64]),
+        ] {
+            assert_eq!(millionths(&weights), Ok(due), "{weights:?}");
         }
-        // The double above one millionth is the first that has one.
-        assert_eq!(millionths(f64::from_bits(1e-6f64.to_bits() + 1)), Ok(1));
+        for weights in [vec![], vec![0.0], vec![1.0, 1.0], vec![0.5, 0.25]] {
+            assert_eq!(millionths(&weights), Err(18), "{weights:?}");
+        }
         for weight in [f64::NAN, -5e-324, 1.0 + f64::EPSILON, f64::INFINITY] {
-            assert_eq!(millionths(weight), Err(13));
+            assert_eq!(millionths(&[0.0, weight]), Err(13));
         }
     }
 
