@@ -15,7 +15,7 @@ use Rattle.lent.specs.Grid.{tab}
 use Rattle.lent.specs.Lent.{most-assets, laid}
 use Rattle.fields.specs.Split.{all}
 
--- "a weight to be put in millionths is NaN, below 0 or above 1" is 13. One is 2^1074 units of 2^-1074; −0 is not below 0
+-- a weight that is not "NaN, below 0 or above 1". One is 2^1074 units of 2^-1074; −0 is not below 0
 unfoldable pub inRange : Float → Bool
 inRange nan = false
 inRange (inf s) = false
@@ -47,6 +47,10 @@ rankOf left n i = upto (λ j. one (sooner left j i)) n
 
 -- ---- a list of weights: 9, 11, 13
 
+-- 13: "a weight to be put in millionths is NaN, below 0 or above 1"
+abbrev pub rangeLine : List Float → Line
+rangeLine ws = (not (all inRange ws), WeightOutOfRange)
+
 unfoldable pub wholesIn : List Float → List ℕ
 wholesIn ws = tab (length ws) (wholeAt ws)
 
@@ -57,7 +61,7 @@ unfoldable pub fractionsTable : List Float → ℕ → ℕ → List Line
 fractionsTable ws wholes ranks =
     (ltb most-assets (length ws), OverLimit)
     ∷ (ltb wholes (length ws) || ltb ranks (length ws), ShortBuffer)
-    ∷ (not (all inRange ws), WeightOutOfRange)
+    ∷ rangeLine ws
     ∷ []
 
 unfoldable pub fractionsOutcome : List Float → ℕ → ℕ → Outcome

@@ -1,19 +1,18 @@
 -- Document 02, request 3, "Millionths that add up": "Start from the whole parts, then give one more millionth each to the assets with the largest fractions left over,
 -- the lower asset number first on a tie, until the total is 1,000,000." Definitions only.
 use Prim.Native.Nat.{ℕ, _+_, _-_}
-use mathlib.Core.Bool.{Bool, not, _||_}
+use mathlib.Core.Bool.{Bool, _||_}
 use mathlib.Core.List.{List, [], _∷_}
 use lib.Dec.{ltb}
 use lib.ListN.{length}
 use lib.Ieee.{Float}
 use Rattle.refusal.specs.Table.{Line, first}
-use Rattle.refusal.specs.declared.Refusal.the-variants.{OverLimit, ShortBuffer, WeightOutOfRange, TotalOutOfReach}
+use Rattle.refusal.specs.declared.Refusal.the-variants.{OverLimit, ShortBuffer, TotalOutOfReach}
 use Rattle.refusal.specs.declared.Outcome.{Outcome}
 use Rattle.lent.specs.Count.{one, upto}
 use Rattle.lent.specs.Grid.{tab}
 use Rattle.lent.specs.Lent.{most-assets, laid}
-use Rattle.fields.specs.Split.{all}
-use Rattle.fractions.specs.Fractions.{inRange, wholeAt, leftAt, rankOf}
+use Rattle.fractions.specs.Fractions.{wholeAt, leftAt, rankOf, rangeLine}
 
 -- "the whole parts", added up, and what they miss of 1,000,000
 unfoldable pub wholeTotal : List Float → ℕ
@@ -35,9 +34,9 @@ millionthsIn ws = tab (length ws) (millionthsAt ws)
 unfoldable pub outOfReach : List Float → Bool
 outOfReach ws = ltb 1000000 (wholeTotal ws) || ltb (length ws) (missing ws)
 
--- "a weight to be put in millionths is NaN, below 0 or above 1" (13), then 18
+-- 13, then 18
 unfoldable pub millionthsLines : List Float → List Line
-millionthsLines ws = (not (all inRange ws), WeightOutOfRange) ∷ (outOfReach ws, TotalOutOfReach) ∷ []
+millionthsLines ws = rangeLine ws ∷ (outOfReach ws, TotalOutOfReach) ∷ []
 
 unfoldable pub millionthsTable : List Float → ℕ → List Line
 millionthsTable ws room = (ltb most-assets (length ws), OverLimit) ∷ (ltb room (length ws), ShortBuffer) ∷ millionthsLines ws
