@@ -79,7 +79,8 @@ uint8_t rovignesc_quasi_diagonalization(const size_t *rows, size_t rows_len, siz
                                         size_t *leaves, size_t leaves_len);
 
 /* A job text to its listing. The listing takes at least 8192 bytes (else 11); bytes has room for one number (else 11): how many bytes of it there
-   are. A refused text has no listing: every byte is zero, and the number too. */
+   are. A refused text has no listing: every byte is zero, and the number too.
+   The millionths of a listing total 1,000,000; where they cannot, nobody's moved by more than one, the text is refused by 18. */
 uint8_t rovignesc_listing(const uint8_t *text, size_t text_len,
                           uint8_t *listing, size_t listing_len,
                           size_t *bytes, size_t bytes_len);
