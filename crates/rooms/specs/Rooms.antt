@@ -59,7 +59,7 @@ pub record ParityCleared (room : ParityRoom) (rows order : List ℕ) (weights co
   pub correlations-are : correlations ≡ zeros (room .correlations)
   pub distances-are : distances ≡ zeros (room .distances)
 
--- "no assets 1; covariance size 3", of a covariance given by itself
+-- "no assets 1; .. covariance size 3", of a covariance given by itself
 unfoldable pub squareLines : ℕ → ℕ → List Line
 squareLines rows w = (eqb w 0, NoData) ∷ (not (eqb rows w), DimensionMismatch) ∷ []
 
