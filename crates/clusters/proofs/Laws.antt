@@ -24,7 +24,7 @@ use Rattle.lent.proofs.Laws.{cell-in, length-tab, getD-over}
 use Rattle.lent.proofs.Sums.{sum-ext, sums-ext, any-no}
 use Rattle.lent.proofs.Sizes.{same-length, laid-done, laid-refused}
 use Rattle.clusters.specs.Clusters.{nth, shares, term, varianceOf, expectation, ratio, ratioOf, outside, anyListedLow, recipSum, riskTable, sizeTable, notSquare, sharesOutcome, sharesAnswer, sharesLaid, varianceOutcome, varianceAnswer, sharpeOutcome, sharpeAnswer, riskOf, riskTells}
-use Rattle.clusters.specs.Inner.{Listed}
+use Rattle.clusters.specs.Inner.{ListedAssets}
 use Rattle.clusters.specs.declared.Risk.the-variants as risk
 
 -- ---- what an answer tells
@@ -35,15 +35,15 @@ risk-tells (Refused r) v = refl
 
 -- ---- assets of a square matrix
 
-pub listed-cell : {cov : List Float} {n : ℕ} {assets : List ℕ} → Listed cov n assets → (i j : ℕ) → i < length assets → j < length assets
+pub listed-cell : {cov : List Float} {n : ℕ} {assets : List ℕ} → ListedAssets cov n assets → (i j : ℕ) → i < length assets → j < length assets
     → nth assets i * n + nth assets j < length cov
 listed-cell {cov} {n} {assets} p i j h k = cell-in cov n n (nth assets i) (nth assets j) (p .cells) (p .each i h) (p .each j k)
 
-pub listed-in : {cov : List Float} {n : ℕ} {assets : List ℕ} → Listed cov n assets → (expected : List Float) → length expected ≡ n
+pub listed-in : {cov : List Float} {n : ℕ} {assets : List ℕ} → ListedAssets cov n assets → (expected : List Float) → length expected ≡ n
     → (k : ℕ) → k < length assets → nth assets k < length expected
 listed-in p expected e k h = omega (arith, p .each k h)
 
-pub listed : (cov : List Float) (n : ℕ) (assets : List ℕ) → length cov ≡ n * n → length assets ≤ 64 → outside n assets ≡ false → Listed cov n assets
+pub listed : (cov : List Float) (n : ℕ) (assets : List ℕ) → length cov ≡ n * n → length assets ≤ 64 → outside n assets ≡ false → ListedAssets cov n assets
 unfolding outside
 listed cov n assets c f o =
     record { cells = c; few = f; each = λ k h. leb-false n (nth assets k) (any-no (λ i. leb n (nth assets i)) (length assets) o k h) }
@@ -120,7 +120,7 @@ module _ (cov : List Float) (rows w : ℕ) (assets : List ℕ) where
     between-done : AllNo b
     between-done = none b (both-done (first b) _ (sizes-done .1) .0)
 
-    all-listed : rows ≡ w → Listed cov w assets
+    all-listed : rows ≡ w → ListedAssets cov w assets
     unfolding riskTable
     all-listed q =
         let z = sized (sizes-done .0) in
@@ -134,7 +134,7 @@ module _ (cov : List Float) (rows w : ℕ) (assets : List ℕ) where
     unfolding sharesOutcome
     shares-said rest fits said a b h = staged ((ltb room (length assets), ShortBuffer) ∷ notSquare rows w ∷ []) fits said (simp (table, table-end) (cc)) h
 
-    pub shares-accepted : sharesOutcome cov rows w assets room ≡ Done → (rows ≡ w) × Listed cov w assets × (length assets ≤ room)
+    pub shares-accepted : sharesOutcome cov rows w assets room ≡ Done → (rows ≡ w) × ListedAssets cov w assets × (length assets ≤ room)
     unfolding sharesOutcome
     shares-accepted e =
         let a = between-done ((ltb room (length assets), ShortBuffer) ∷ notSquare rows w ∷ []) e in
@@ -160,7 +160,7 @@ module _ (cov : List Float) (rows w : ℕ) (assets : List ℕ) where
   unfolding varianceOutcome
   variance-said fits said a h = staged (notSquare rows w ∷ []) fits said (simp (table, table-end) (cc)) h
 
-  pub variance-accepted : varianceOutcome cov rows w assets ≡ Done → (rows ≡ w) × Listed cov w assets
+  pub variance-accepted : varianceOutcome cov rows w assets ≡ Done → (rows ≡ w) × ListedAssets cov w assets
   unfolding varianceOutcome
   variance-accepted e =
       let q = same-number rows w (between-done (notSquare rows w ∷ []) e .0) in
@@ -182,7 +182,7 @@ module _ (cov : List Float) (rows w : ℕ) (assets : List ℕ) where
     unfolding sharpeOutcome
     sharpe-said rest fits said a b h = staged (notSquare rows w ∷ (not (eqb (length expected) w), DimensionMismatch) ∷ []) fits said (simp (table, table-end) (cc)) h
 
-    pub sharpe-accepted : sharpeOutcome expected cov rows w assets ≡ Done → (rows ≡ w) × Listed cov w assets × (length expected ≡ w)
+    pub sharpe-accepted : sharpeOutcome expected cov rows w assets ≡ Done → (rows ≡ w) × ListedAssets cov w assets × (length expected ≡ w)
     unfolding sharpeOutcome
     sharpe-accepted e =
         let a = between-done (notSquare rows w ∷ (not (eqb (length expected) w), DimensionMismatch) ∷ []) e in

@@ -15,7 +15,7 @@ use Rattle.refusal.specs.declared.Outcome.{Outcome}
 use Rattle.refusal.specs.declared.Outcome.the-variants.{Done, Refused}
 use Rattle.refusal.proofs.Tables.{table, table-pass, first-append}
 use Rattle.clusters.specs.Clusters.{varianceOf, riskTable, sizeTable, notSquare, sharesOutcome, varianceOutcome, varianceAnswer, sharpeOutcome, riskOf}
-use Rattle.clusters.specs.Inner.{Listed, told}
+use Rattle.clusters.specs.Inner.{ListedAssets, told}
 use Rattle.clusters.specs.Shares.{none, some, isNone, weightsIn}
 use Rattle.clusters.specs.declared.Risk.the-variants as risk
 use Rattle.clusters.proofs.Laws.{variance-accepted}
@@ -73,7 +73,7 @@ module _ (cov : List Float) (rows w : ℕ) (assets : List ℕ) where
     pub variance-square : rows ≡ w
     variance-square = variance-accepted cov rows w assets variance-outcome .0
 
-    pub variance-listed : Listed cov w assets
+    pub variance-listed : ListedAssets cov w assets
     variance-listed = variance-accepted cov rows w assets variance-outcome .1
 
   -- ---- the weights and the ratio are refused as the variance is, where there is room and an expected return for each asset

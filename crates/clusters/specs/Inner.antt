@@ -10,7 +10,7 @@ use Rattle.clusters.specs.Clusters.{nth}
 use Rattle.clusters.specs.Shares.{Shares, none, some}
 
 -- assets of a square matrix of n columns
-pub record Listed (cov : List Float) (n : ℕ) (assets : List ℕ) : Type 0 where
+pub record ListedAssets (cov : List Float) (n : ℕ) (assets : List ℕ) : Type 0 where
   pub cells : length cov ≡ n * n
   pub few : length assets ≤ most-assets
   pub each : (k : ℕ) → k < length assets → nth assets k < n

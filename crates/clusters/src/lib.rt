@@ -14,7 +14,7 @@ ghost use Rattle.refusal.specs.declared.Outcome.the-variants.{Done};
 ghost use Rattle.lent.specs.Grid.{cell, over, sumTo, sumOn, sumRows};
 ghost use Rattle.clusters.specs.Clusters.{nth, varianceAt, recipSum, shares, term, ratio, ratioOf, varianceOf};
 ghost use Rattle.clusters.specs.Clusters.{outside, anyListedLow, riskTable, sizeTable, sharesAnswer, sharesLaid, varianceAnswer, sharpeAnswer};
-ghost use Rattle.clusters.specs.Inner.{Listed};
+ghost use Rattle.clusters.specs.Inner.{ListedAssets};
 
 // A variance or a ratio, or the refusal.
 pub enum Risk {
@@ -46,7 +46,7 @@ pub fn any_outside(n: usize, assets: &[usize]) -> bool
 
 // The variance of the k-th asset listed.
 fn own_variance(cov: &[f64], n: usize, assets: &[usize], k: usize) -> f64
-    requires { ⌜ Listed (now cov) n (now assets) ⌝ }
+    requires { ⌜ ListedAssets (now cov) n (now assets) ⌝ }
     requires { ⌜ k < length (now assets) ⌝ }
     ensures { λ r. ⌜ r ≡ varianceAt (now (cov .entry)) n (nth (now (assets .entry)) k) ⌝ }
 {
@@ -56,7 +56,7 @@ fn own_variance(cov: &[f64], n: usize, assets: &[usize], k: usize) -> f64
 
 // A variance is 0 or below; a NaN isn't.
 fn any_low(cov: &[f64], n: usize, assets: &[usize]) -> bool
-    requires { ⌜ Listed (now cov) n (now assets) ⌝ }
+    requires { ⌜ ListedAssets (now cov) n (now assets) ⌝ }
     ensures { λ r. ⌜ r ≡ anyListedLow (now (cov .entry)) n (now (assets .entry)) ⌝ }
 {
     let mut k = 0;
@@ -70,7 +70,7 @@ fn any_low(cov: &[f64], n: usize, assets: &[usize]) -> bool
 }
 
 fn recip_sum(cov: &[f64], n: usize, assets: &[usize]) -> f64
-    requires { ⌜ Listed (now cov) n (now assets) ⌝ }
+    requires { ⌜ ListedAssets (now cov) n (now assets) ⌝ }
     ensures { λ r. ⌜ r ≡ recipSum (now (cov .entry)) n (now (assets .entry)) ⌝ }
 {
     let mut s = 0.0;
@@ -84,7 +84,7 @@ fn recip_sum(cov: &[f64], n: usize, assets: &[usize]) -> f64
 
 // The weights, at the front of out.
 fn fill(cov: &[f64], n: usize, assets: &[usize], out: &mut [f64])
-    requires { ⌜ Listed (now cov) n (now assets) ⌝ }
+    requires { ⌜ ListedAssets (now cov) n (now assets) ⌝ }
     requires { ⌜ length (now assets) ≤ length (now out) ⌝ }
     ensures { λ _. ⌜ now (out .exit) ≡ over (shares (now (cov .entry)) n (now (assets .entry))) (now (out .entry)) ⌝ }
 {
@@ -166,7 +166,7 @@ pub fn inverse_variance_weights(
 
 // The terms of row i, added to v.
 fn add_row(cov: &[f64], n: usize, assets: &[usize], w: &[f64; 64], i: usize, v: f64) -> f64
-    requires { ⌜ Listed (now cov) n (now assets) ⌝ }
+    requires { ⌜ ListedAssets (now cov) n (now assets) ⌝ }
     requires { ⌜ i < length (now assets) ⌝ }
     ensures { λ r. ⌜ r ≡ sumOn v (length (now (assets .entry))) (term (now (cov .entry)) n (now (assets .entry)) (now (w .entry)) i) ⌝ }
 {
@@ -191,7 +191,7 @@ fn at_least_zero(v: f64) -> f64
 
 // The variance under the weights w.
 fn weighted_variance(cov: &[f64], n: usize, assets: &[usize], w: &[f64; 64]) -> f64
-    requires { ⌜ Listed (now cov) n (now assets) ⌝ }
+    requires { ⌜ ListedAssets (now cov) n (now assets) ⌝ }
     ensures { λ r. ⌜ r ≡ maxOf (sumRows (length (now (assets .entry))) (length (now (assets .entry))) (term (now (cov .entry)) n (now (assets .entry)) (now (w .entry)))) pz ⌝ }
 {
     let mut v = 0.0;
@@ -204,7 +204,7 @@ fn weighted_variance(cov: &[f64], n: usize, assets: &[usize], w: &[f64; 64]) -> 
 }
 
 fn variance(cov: &[f64], n: usize, assets: &[usize]) -> f64
-    requires { ⌜ Listed (now cov) n (now assets) ⌝ }
+    requires { ⌜ ListedAssets (now cov) n (now assets) ⌝ }
     ensures { λ r. ⌜ r ≡ varianceOf (now (cov .entry)) n (now (assets .entry)) ⌝ }
 {
     let mut w = [0.0; 64];
@@ -250,7 +250,7 @@ fn over_root(mu: f64, v: f64) -> f64
 }
 
 fn sharpe(expected: &[f64], cov: &[f64], n: usize, assets: &[usize]) -> f64
-    requires { ⌜ Listed (now cov) n (now assets) ⌝ }
+    requires { ⌜ ListedAssets (now cov) n (now assets) ⌝ }
     requires { ⌜ length (now expected) ≡ n ⌝ }
     ensures { λ r. ⌜ r ≡ ratioOf (now (expected .entry)) (now (cov .entry)) n (now (assets .entry)) ⌝ }
 {

@@ -50,7 +50,7 @@ use Rattle.reading.proofs.Accepted.{accepted, Hrp, Hcaa, read-hrp, read-hcaa, r
 use Rattle.job.specs.Job.{metricIn, clustersIn, confidence, hcaaJobIn, roomOfHrp, roomOfHcaa, allocatorSays, jobWeights, jobOrder, jobOutcome, TextListed}
 use Rattle.listing.specs.declared.Listed.{Listed}
 use Rattle.millionths.proofs.AddUp.{adds-up}
-use Rattle.job.specs.Inner.{Read, Answer, Allotted, Told}
+use Rattle.job.specs.Inner.{Read, AllocatorAnswer, Allotted, Told}
 use Rattle.job.proofs.Ends.{counted, allocator-done, weights-done}
 
 -- ---- what was read
@@ -134,7 +134,7 @@ module _ (text : List ℕ) (n : ℕ) (q : n ≡ assets text) (few : n ≤ 64) (s
   counts = order-size rows n tree above
 
   answered : (o : Outcome) → o ≡ outcome.Done → (weights ws : List Float) (order os : List ℕ) → length ws ≡ n → os ≡ leavesOf rows n (2 * n - 2) → weights ≡ laid pz o 64 ws → order ≡ laid 0 o 64 os
-      → ws ≡ jobWeights text (jobIn text) → os ≡ jobOrder text (jobIn text) → Answer text weights order
+      → ws ≡ jobWeights text (jobIn text) → os ≡ jobOrder text (jobIn text) → AllocatorAnswer text weights order
   answered o e weights ws order os s k a b f g =
       let w : take n weights ≡ ws = laid-front pz o 64 n ws weights a e s in
       let t : take n order ≡ os = laid-front 0 o 64 n os order b e (ap length k ∙ counts) in

@@ -28,7 +28,7 @@ pub record Read (text : List ℕ) (job : Reading) (covariance : List Float) (sta
   pub places : starts ≡ startsIn text
 
 -- the allocator's answer for such a job, at the front of buffers of 64
-pub record Answer (text : List ℕ) (weights : List Float) (order : List ℕ) : Type 0 where
+pub record AllocatorAnswer (text : List ℕ) (weights : List Float) (order : List ℕ) : Type 0 where
   pub weights-are : take (assets text) weights ≡ jobWeights text (jobIn text)
   pub order-is : take (assets text) order ≡ jobOrder text (jobIn text)
   pub each-once : isOrder (take (assets text) order) (assets text) ≡ true
@@ -39,7 +39,7 @@ pub record Allotted (text starts : List ℕ) (weights : List Float) (order : Lis
   pub weights-wide : length weights ≡ 64
   pub order-wide : length order ≡ 64
   pub is : said ≡ allocatorSays text (jobIn text)
-  pub answer : said ≡ Done → Answer text weights order
+  pub answer : said ≡ Done → AllocatorAnswer text weights order
 
 -- what the call promises of its buffer
 abbrev pub Told : List ℕ → ℕ → Listed → List ℕ → Type 0

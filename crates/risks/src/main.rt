@@ -7,7 +7,7 @@ use recorded::Place;
 use sharing::Metric;
 
 // A matrix and a list of ids that were read, and the place after them.
-struct Listed {
+struct MatrixAndList {
     rows: usize,
     columns: usize,
     len: usize,
@@ -52,12 +52,12 @@ type Ids = [usize; 512];
 
 // ---- reading
 
-fn matrix_and_list(text: &[u8], at: usize, cells: &mut Cells, list: &mut Ids) -> Listed {
+fn matrix_and_list(text: &[u8], at: usize, cells: &mut Cells, list: &mut Ids) -> MatrixAndList {
     let rows = recorded::next(text, at);
     let columns = recorded::next(text, rows.at);
     let len = recorded::doubles_to(text, columns.at, cells, 0);
     let count = recorded::next(text, len.at);
-    Listed {
+    MatrixAndList {
         rows: rows.value as usize,
         columns: columns.value as usize,
         len: len.value as usize,
@@ -154,7 +154,7 @@ fn tell_shares(answer: Answer, out: &[f64], left: usize, told: &mut [u8], end: u
 // ---- calls
 
 // The call of opcode 1 or 4: a matrix and a list of assets to weights.
-fn run(code: u64, m: Listed, cells: &[f64], list: &[usize], out: &mut [f64]) -> Answer {
+fn run(code: u64, m: MatrixAndList, cells: &[f64], list: &[usize], out: &mut [f64]) -> Answer {
     let matrix = recorded::part(cells, 0, m.len);
     let assets = recorded::front(list, m.count);
     match code {
@@ -182,7 +182,7 @@ fn weights(
     }
 }
 
-fn variance_of(m: Listed, cells: &[f64], list: &[usize]) -> Risk {
+fn variance_of(m: MatrixAndList, cells: &[f64], list: &[usize]) -> Risk {
     let matrix = recorded::part(cells, 0, m.len);
     let assets = recorded::front(list, m.count);
     clusters::cluster_variance(matrix, m.rows, m.columns, assets)
@@ -197,7 +197,7 @@ fn variance(text: &[u8], from: Place, cells: &mut Cells, list: &mut Ids, told: &
     }
 }
 
-fn sharpe_of(m: Listed, width: usize, cells: &[f64], list: &[usize]) -> Risk {
+fn sharpe_of(m: MatrixAndList, width: usize, cells: &[f64], list: &[usize]) -> Risk {
     let expected = recorded::part(cells, recorded::EXPECTED, width);
     let matrix = recorded::part(cells, 0, m.len);
     let assets = recorded::front(list, m.count);
@@ -218,7 +218,7 @@ fn sharpe(text: &[u8], from: Place, cells: &mut Cells, list: &mut Ids, told: &mu
 fn risk_of(
     code: u64,
     r: Table,
-    m: Listed,
+    m: MatrixAndList,
     confidence: f64,
     cells: &[f64],
     list: &[usize],
@@ -287,7 +287,7 @@ fn share(
     e: Expected,
     r: Table,
     confidence: f64,
-    m: Listed,
+    m: MatrixAndList,
     cells: &[f64],
     list: &[usize],
     out: &mut [f64],
