@@ -18,14 +18,13 @@ use Rattle.tails.proofs.Known.{shortfall-known, drawdown-known}
 use Rattle.metrics.specs.declared.Metric.{Metric}
 use Rattle.metrics.specs.declared.Metric.the-variants.{MinimumVariance, MinimumStandardDeviation, SharpeRatio, EqualWeighting, ExpectedShortfall, ConditionalDrawdownRisk}
 use Rattle.metrics.specs.declared.NamedMetric.the-variants as metric
-use Rattle.metrics.specs.declared.Split.{Split}
 use Rattle.metrics.specs.declared.Splitting.{Splitting}
 use Rattle.metrics.specs.declared.Splitting.the-variants as splitting
 use Rattle.metrics.specs.Names.{metricNamed, namedMetricTells, isTailRisk}
-use Rattle.metrics.specs.Split.{Inputs, byRisk, byRatio, scored, withRisks, splitOfBoth, splitOf, splittingTells, readAnswer, scoredAnswer, splitAnswer}
+use Rattle.metrics.specs.Split.{Inputs, byRisk, byRatio, scored, withRisks, splitOfBoth, splitOf, splittingTells, splitRead, readAnswer, scoredAnswer, splitAnswer}
 use Rattle.metrics.specs.Inner.{Fed}
 
--- ---- what an answer tells: a name is one of a metric or 2; a split is that of two risks, or the refusal of the first that has one
+-- ---- what an answer tells: a name is one of a metric or 2
 
 pick : (a b c d e f : Bool) (r : Refusal)
     → cond a (metric.Of MinimumVariance) (cond b (metric.Of MinimumStandardDeviation) (cond c (metric.Of SharpeRatio) (cond d (metric.Of EqualWeighting) (cond e (metric.Of ExpectedShortfall) (cond f (metric.Of ConditionalDrawdownRisk) (metric.Refused UnknownAllocationMetric)))))) ≡ metric.Refused r
@@ -47,15 +46,6 @@ unnamed-tells name r e =
     ap namedMetricTells e
     ∙ sym (ap refuses (pick (same name (bytes "minimum_variance")) (same name (bytes "minimum_standard_deviation")) (same name (bytes "sharpe_ratio")) (same name (bytes "equal_weighting")) (same name (bytes "expected_shortfall")) (same name (bytes "conditional_drawdown_risk")) r e))
 
-pub split-tells : (x y : Float) (f : Float → Float → Split) → splittingTells (splitOfBoth (risk.Of x) (risk.Of y) f) ≡ accepts (f x y)
-split-tells x y f = refl
-
-pub left-tells : (r : Refusal) (w : Risk) (f : Float → Float → Split) → splittingTells (splitOfBoth (risk.Refused r) w f) ≡ refuses r
-left-tells r w f = refl
-
-pub right-tells : (x : Float) (r : Refusal) (f : Float → Float → Split) → splittingTells (splitOfBoth (risk.Of x) (risk.Refused r) f) ≡ refuses r
-right-tells x r f = refl
-
 -- ---- the split of two sides, from what the calls said
 
 module _ (metric : Metric) (x : Inputs) (cov : List Float) (n : ℕ) (a b : List ℕ) (room : ℕ) where
@@ -71,6 +61,32 @@ module _ (metric : Metric) (x : Inputs) (cov : List Float) (n : ℕ) (a b : List
       → s ≡ splitAnswer metric x cov n a b room
   unfolding splitAnswer
   both-fine l r s k e h g q = rw (e, h) (q ∙ ap (λ (i : ℕ). scoredAnswer metric x cov n a b i l r) g)
+
+  -- what it tells: the refusal of the left side's variance, then of the right's; of what the metric reads of the left side, then of the right; else the split by what was read
+  pub left-tells : (k : Refusal) → varianceAnswer cov n n a ≡ risk.Refused k → splittingTells (splitAnswer metric x cov n a b room) ≡ refuses k
+  left-tells k e = ap splittingTells (sym (left-none k e))
+
+  module _ (l : Float) (e : varianceAnswer cov n n a ≡ risk.Of l) where
+    pub right-tells : (k : Refusal) → varianceAnswer cov n n b ≡ risk.Refused k → splittingTells (splitAnswer metric x cov n a b room) ≡ refuses k
+    right-tells k h = ap splittingTells (sym (right-none l k e h))
+
+    module _ (r : Float) (h : varianceAnswer cov n n b ≡ risk.Of r) where
+      as-scored : splitAnswer metric x cov n a b room ≡ scoredAnswer metric x cov n a b room l r
+      as-scored = sym (both-fine l r _ room e h refl refl)
+
+      pub left-read-tells : (k : Refusal) → readAnswer metric x cov n room a l ≡ risk.Refused k → splittingTells (splitAnswer metric x cov n a b room) ≡ refuses k
+      unfolding scoredAnswer
+      left-read-tells k g = ap splittingTells as-scored ∙ rw g
+
+      pub right-read-tells : (s : Float) (k : Refusal) → readAnswer metric x cov n room a l ≡ risk.Of s → readAnswer metric x cov n room b r ≡ risk.Refused k
+          → splittingTells (splitAnswer metric x cov n a b room) ≡ refuses k
+      unfolding scoredAnswer
+      right-read-tells s k g i = ap splittingTells as-scored ∙ rw (g, i)
+
+      pub split-tells : (s t : Float) → readAnswer metric x cov n room a l ≡ risk.Of s → readAnswer metric x cov n room b r ≡ risk.Of t
+          → splittingTells (splitAnswer metric x cov n a b room) ≡ accepts (splitRead metric l r s t)
+      unfolding scoredAnswer
+      split-tells s t g i = ap splittingTells as-scored ∙ rw (g, i)
 
   module _ (l r : Float) (s t : Risk) (o : Splitting) where
     pub sharpe-scored : metric ≡ SharpeRatio → s ≡ sharpeAnswer (x .expected) cov n n a → t ≡ sharpeAnswer (x .expected) cov n n b → o ≡ splitOfBoth s t (λ p q. byRatio p q l r)
