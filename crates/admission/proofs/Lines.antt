@@ -34,8 +34,8 @@ judge-said q len rows w room sized rooms shape ruled later rest r a b c d e f g 
 
 -- return rows of another width, behind the covariance's own lines
 pub shape-said : (q : HierarchyCall) (rows w : ℕ) (square o r : Outcome) → square ≡ first (squareLines rows w)
-    → o ≡ orElse (otherRows (q .rule .metric) (q .rule .inputs) (q .return-columns) w) DimensionMismatch Done → r ≡ andThen square o → r ≡ first (hierarchyShapeLines q rows w)
+    → o ≡ orElse (otherRows (q .rule .metric) (q .rule .inputs .return-rows) (q .return-columns) w) DimensionMismatch Done → r ≡ andThen square o → r ≡ first (hierarchyShapeLines q rows w)
 unfolding hierarchyShapeLines
 shape-said q rows w square o r a b c =
-    let other = otherRows (q .rule .metric) (q .rule .inputs) (q .return-columns) w in
+    let other = otherRows (q .rule .metric) (q .rule .inputs .return-rows) (q .return-columns) w in
     c ∙ rw (a, b) (sym (first-append (squareLines rows w) ((other, DimensionMismatch) ∷ []) ∙ ap (andThen (first (squareLines rows w))) (table other DimensionMismatch [] ∙ ap (orElse other DimensionMismatch) table-end)))

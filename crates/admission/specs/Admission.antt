@@ -34,7 +34,7 @@ hierarchySizeLines q len rows w =
 unfoldable pub hierarchyShapeLines : HierarchyCall → ℕ → ℕ → List Line
 unfolding squareLines
 hierarchyShapeLines q rows w =
-    squareLines rows w ++ ((otherRows (q .rule .metric) (q .rule .inputs) (q .return-columns) w, DimensionMismatch) ∷ [])
+    squareLines rows w ++ ((otherRows (q .rule .metric) (q .rule .inputs .return-rows) (q .return-columns) w, DimensionMismatch) ∷ [])
 
 -- "Sharpe: expected length other than n 3, else 4"
 unfoldable pub expectedLines : HierarchyCall → ℕ → List Line
@@ -45,7 +45,7 @@ expectedLines q n =
 
 -- document 02, request 1: 16 and 17, "before 6"; 6
 unfoldable pub ruleLines : Rule → ℕ → List Line
-ruleLines q n = metricTailLines (q .metric) (q .inputs) ++ (countLine (q .clusters) n ∷ [])
+ruleLines q n = metricTailLines (q .metric) (q .inputs .return-rows) (q .inputs .confidence) ++ (countLine (q .clusters) n ∷ [])
 
 -- the lines before those of the risk
 unfoldable pub hierarchyJudgeTable : HierarchyCall → ℕ → ℕ → ℕ → Room → List Line

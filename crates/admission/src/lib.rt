@@ -67,8 +67,7 @@ fn judge_shape(
 
 // The rows and the confidence that a tail-risk metric asks for, before the rest.
 fn judge_tail(metric: Metric, return_rows: usize, confidence: f64, rest: Outcome) -> Outcome
-    ensures { λ r. ⌜ ((e xs : List Float) → r
-        ≡ andThen (first (metricTailLines metric (record { expected = e; returns = xs; return-rows = «return_rows»; confidence = confidence }))) rest) ⌝ }
+    ensures { λ r. ⌜ r ≡ andThen (first (metricTailLines metric «return_rows» confidence)) rest ⌝ }
 {
     let tail = sharing::is_tail_risk(metric);
     let rowless = refusal::both(tail, return_rows == 0);

@@ -65,15 +65,21 @@ ratioOf expected cov n assets = ratio (expectation expected cov n assets) (varia
 unfoldable pub outside : ℕ → List ℕ → Bool
 outside n assets = anyTo (length assets) (λ k. leb n (nth assets k))
 
+abbrev pub outsideLine : ℕ → List ℕ → Line
+outsideLine n assets = (outside n assets, NoTree)
+
 -- 1: a variance ≤ 0 (a NaN variance isn't)
 unfoldable pub anyListedLow : List Float → ℕ → List ℕ → Bool
 anyListedLow cov n assets = anyTo (length assets) (λ k. le (varianceAt cov n (nth assets k)) pz)
 
--- "then 14; then as in the allocators": a variance ≤ 0 is 1, reciprocals that sum to ≤ 0 are 1. "An empty cluster is 1": its reciprocals sum to +0
+-- a variance ≤ 0 is 1, reciprocals that sum to ≤ 0 are 1. "An empty cluster is 1": its reciprocals sum to +0
+abbrev pub lowLines : List Float → ℕ → List ℕ → List Line
+lowLines cov n assets = (anyListedLow cov n assets, NoData) ∷ (le (recipSum cov n assets) pz, NoData) ∷ []
+
+-- "then 14; then as in the allocators"
 unfoldable pub riskTable : List Float → ℕ → List ℕ → List Line
 unfolding outside anyListedLow recipSum
-riskTable cov n assets =
-    (outside n assets, NoTree) ∷ (anyListedLow cov n assets, NoData) ∷ (le (recipSum cov n assets) pz, NoData) ∷ []
+riskTable cov n assets = outsideLine n assets ∷ lowLines cov n assets
 
 -- 9: the covariance, or a list of more than 64 assets; 10
 unfoldable pub sizeTable : List Float → ℕ → ℕ → List ℕ → List Line

@@ -17,7 +17,7 @@ use Rattle.clusters.specs.Shares.{factorOf}
 use Rattle.ordering.specs.Order as order
 use Rattle.ordering.specs.Nearest.{wholeOf, place, quantile, noPart}
 use Rattle.tails.specs.Tail.{gain, rowReturn, tailSum, tailCount, mean, shortfall, wealth, higher, peak, fall, drawdown, conditionalDrawdown, shortfallOf, drawdownOf}
-use Rattle.tails.specs.Measures.{measureSizeLines, measureShapeLines, lowLines, measureOutcome, shortfallAnswer, drawdownAnswer}
+use Rattle.tails.specs.Measures.{measureSizeLines, measureShapeLines, measureOutcome, shortfallAnswer, drawdownAnswer}
 use Rattle.metrics.specs.declared.Metric.{Metric}
 use Rattle.metrics.specs.declared.Metric.the-variants.{MinimumVariance, MinimumStandardDeviation, SharpeRatio, EqualWeighting, ExpectedShortfall, ConditionalDrawdownRisk}
 use Rattle.metrics.specs.declared.NamedMetric.{NamedMetric}
@@ -131,5 +131,5 @@ figure-list =
     ∷ []
 
 pub figures : all figure-list ≡ true
-unfolding same metricNamed order.hasMinus order.before order.insert order.insertAll order.sorted wholeOf place quantile noPart gain rowReturn tailSum tailCount mean shortfall wealth higher peak fall drawdown conditionalDrawdown shortfallOf drawdownOf measureSizeLines measureShapeLines lowLines measureOutcome shortfallAnswer drawdownAnswer scoredAnswer splitAnswer byRisk byRatio fair splitBy bounded factorOf recip recipSum shares term varianceOf expectation ratio ratioOf outside anyListedLow riskTable sizeTable varianceOutcome varianceAnswer sharpeOutcome sharpeAnswer first tab sumTo sumOn sumRows anyTo overLimit otherLength maxOf clampOf finiteOf countOf root isqrt lt le eq isNan add sum sub neg mul div ofInt round units odd trailingZeros size span climb ofFields ofBits toBits
+unfolding same metricNamed order.hasMinus order.before order.insert order.insertAll order.sorted wholeOf place quantile noPart gain rowReturn tailSum tailCount mean shortfall wealth higher peak fall drawdown conditionalDrawdown shortfallOf drawdownOf measureSizeLines measureShapeLines measureOutcome shortfallAnswer drawdownAnswer scoredAnswer splitAnswer byRisk byRatio fair splitBy bounded factorOf recip recipSum shares term varianceOf expectation ratio ratioOf outside anyListedLow riskTable sizeTable varianceOutcome varianceAnswer sharpeOutcome sharpeAnswer first tab sumTo sumOn sumRows anyTo overLimit otherLength maxOf clampOf finiteOf countOf root isqrt lt le eq isNan add sum sub neg mul div ofInt round units odd trailingZeros size span climb ofFields ofBits toBits
 figures = refl

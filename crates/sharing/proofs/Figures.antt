@@ -27,7 +27,7 @@ use Rattle.metrics.specs.declared.Metric.the-variants.{MinimumVariance, Minimum
 use Rattle.metrics.specs.Split.{Inputs, bounded, splitBy, byRisk, fair, byRatio, scored, splitOf}
 use Rattle.metrics.specs.Inner.{inputs}
 use Rattle.sharing.specs.Allot.{spreadOf, equalOf, dealTo, variedOf, insideOf, allotted, downShares}
-use Rattle.sharing.specs.Down.{isSharpe, isTailRisk, DownCall, downSizeLines, downRuleLines, downGiven, downTable, downOutcome, downAnswer, downWeights}
+use Rattle.sharing.specs.Down.{isSharpe, isTailRisk, otherRows, metricTailLines, DownCall, downSizeLines, downRuleLines, downGiven, downTable, downOutcome, downAnswer, downWeights}
 use Rattle.sharing.specs.Inner.{downCall}
 
 abbrev all : List Bool → Bool
@@ -136,5 +136,5 @@ figure-list =
     ∷ []
 
 pub figures : all figure-list ≡ true
-unfolding same isSharpe isTailRisk order.hasMinus order.before order.insert order.insertAll order.sorted wholeOf place quantile noPart gain rowReturn tailSum tailCount mean shortfall wealth higher peak fall drawdown conditionalDrawdown shortfallOf drawdownOf downSizeLines downRuleLines downGiven downTable downOutcome downAnswer downWeights downShares allotted insideOf variedOf equalOf spreadOf dealTo splitOf scored factorOf byRisk byRatio fair splitBy bounded isNone weightsIn recip recipSum shares term varianceOf expectation ratio outside anyListedLow riskTable sizeTable sharesOutcome varianceOutcome varianceAnswer first count below once isTree grow treeAt leaves tab sumTo sumOn sumRows anyTo overLimit otherLength laid answerOf maxOf clampOf finiteOf countOf oneOver root isqrt lt le eq isNan add sum sub neg mul div ofInt round units odd trailingZeros size span climb ofFields ofBits toBits
+unfolding same isSharpe isTailRisk order.hasMinus order.before order.insert order.insertAll order.sorted wholeOf place quantile noPart gain rowReturn tailSum tailCount mean shortfall wealth higher peak fall drawdown conditionalDrawdown shortfallOf drawdownOf otherRows metricTailLines downSizeLines downRuleLines downGiven downTable downOutcome downAnswer downWeights downShares allotted insideOf variedOf equalOf spreadOf dealTo splitOf scored factorOf byRisk byRatio fair splitBy bounded isNone weightsIn recip recipSum shares term varianceOf expectation ratio outside anyListedLow riskTable sizeTable sharesOutcome varianceOutcome varianceAnswer first count below once isTree grow treeAt leaves tab sumTo sumOn sumRows anyTo overLimit otherLength laid answerOf maxOf clampOf finiteOf countOf oneOver root isqrt lt le eq isNan add sum sub neg mul div ofInt round units odd trailingZeros size span climb ofFields ofBits toBits
 figures = refl

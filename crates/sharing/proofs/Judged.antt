@@ -40,7 +40,7 @@ use Rattle.metrics.specs.declared.Splitting.{Splitting}
 use Rattle.metrics.specs.declared.Splitting.the-variants as splitting
 use Rattle.metrics.specs.Split.{Inputs, splitOf}
 use Rattle.sharing.specs.Allot.{splits, spreadOf, equalOf, dealTo, ifDone, variedOf, insideOf, onward, allotted, allottedAt, downShares}
-use Rattle.sharing.specs.Down.{isSharpe, isTailRisk, otherRows, DownCall, DownSizes, downSizeLines, DownRules, downRuleLines, downSizes, downRules, downGiven, downTable, downOutcome, downAnswer, downWeights}
+use Rattle.sharing.specs.Down.{isSharpe, isTailRisk, otherRows, metricTailLines, DownCall, DownSizes, downSizeLines, DownRules, downRuleLines, downSizes, downRules, downGiven, downTable, downOutcome, downAnswer, downWeights}
 use Rattle.sharing.specs.Inner.{Below, Front, Blank, Down}
 use Rattle.metrics.specs.Inner.{Tailed}
 
@@ -174,7 +174,7 @@ feeding-of true x w n a c d h =
     let more : 0 < x .return-rows = omega arith in
     record { rows = more; columns = same-number w n (rw (lt-ltb 0 (x .return-rows) more) at a); part = d }
 
-pub feeding : (m : Metric) (x : Inputs) (w n : ℕ) → otherRows m x w n ≡ false → (isTailRisk m && eqb (x .return-rows) 0) ≡ false → (isTailRisk m && noPart (x .confidence)) ≡ false → isTailRisk m ≡ true → Feeding x w n
+pub feeding : (m : Metric) (x : Inputs) (w n : ℕ) → otherRows m (x .return-rows) w n ≡ false → (isTailRisk m && eqb (x .return-rows) 0) ≡ false → (isTailRisk m && noPart (x .confidence)) ≡ false → isTailRisk m ≡ true → Feeding x w n
 unfolding otherRows
 feeding m x w n a c d h = feeding-of (isTailRisk m) x w n a c d h
 
@@ -193,7 +193,7 @@ all-no ((t, r) ∷ l) p = table-pass t r l (p .0) ∙ all-no l (p .1)
 
 module _ (q : DownCall) (room scratch : ℕ) where
   pub call-right : first (downGiven q room scratch) ≡ Done → Right q room scratch
-  unfolding downGiven downSizeLines downRuleLines otherRows
+  unfolding downGiven downSizeLines downRuleLines otherRows metricTailLines
   call-right e =
       let a = none (downGiven q room scratch) e in
       let s = neither _ _ (a .1 .1 .1 .1 .1 .1 .1 .0) in
@@ -237,7 +237,7 @@ module _ (q : DownCall) (room scratch : ℕ) where
     whole-returns = rw (eq-eqb (length (q .inputs .returns)) (q .inputs .return-rows * q .return-columns) (p .returns))
 
     pub right-passes : first (downGiven q room scratch) ≡ Done
-    unfolding downGiven downSizeLines downRuleLines
+    unfolding downGiven downSizeLines downRuleLines otherRows metricTailLines
     right-passes =
         let x = expected-right (isSharpe (q .metric)) (q .expected-given) (length (q .inputs .expected)) (q .assets) (p .expects) in
         let f = fed-right (isTailRisk (q .metric)) (q .inputs) (q .return-columns) (q .assets) (p .feeds) in
@@ -403,7 +403,7 @@ pub rules-said : (r : DownRules) (sharpe tail missing wrong unexpected present o
     → o7 ≡ orElse other-rows DimensionMismatch o6
     → o8 ≡ orElse unexpected DimensionMismatch o7
     → o8 ≡ first (downRuleLines r)
-unfolding downRuleLines
+unfolding downRuleLines otherRows metricTailLines
 rules-said r sharpe tail missing wrong unexpected present other-rows no-rows off no-part no-count tree o1 o2 o3 o4 o5 o6 o7 o8 p1 p2 p3 p4 p5 p6 p7 p8 p9 p10 p11 p12 l1 l2 l3 l4 l5 l6 l7 l8 =
     simp (table, table-end) (rw (l8, l7, l6, l5, l4, l3, l2, l1, p12, p11, p10, p9, p8, p7, p6, p5, p4, p3, p2, p1))
 

@@ -20,9 +20,9 @@ use Rattle.metrics.specs.Split.{Inputs}
 use Rattle.sharing.specs.Allot.{downShares}
 
 -- "16, no return rows"; "17, under these two metrics, confidence NaN or outside 0 to 1, right after 16"
-unfoldable pub metricTailLines : Metric → Inputs → List Line
+unfoldable pub metricTailLines : Metric → ℕ → Float → List Line
 unfolding isTailRisk
-metricTailLines m x = tailLines (isTailRisk m) (x .return-rows) (x .confidence)
+metricTailLines m rows confidence = tailLines (isTailRisk m) rows confidence
 
 -- "cluster count 0 or above the assets" (6, with "the count asked and the assets")
 abbrev pub countLine : ℕ → ℕ → Line
@@ -37,9 +37,9 @@ abbrev pub lackLine : Metric → Bool → Line
 lackLine m lacking = (isSharpe m && lacking, MissingExpectedReturnsForSharpe)
 
 -- "return rows present with columns other than n 3", where they are read
-unfoldable pub otherRows : Metric → Inputs → ℕ → ℕ → Bool
+unfoldable pub otherRows : Metric → ℕ → ℕ → ℕ → Bool
 unfolding isTailRisk
-otherRows m x columns n = isTailRisk m && otherWidth (x .return-rows) columns n
+otherRows m rows columns n = isTailRisk m && otherWidth rows columns n
 
 -- the call: the expected returns may be absent, and there may be no return rows
 pub record DownCall : Type 0 where
@@ -93,14 +93,14 @@ pub record DownRules : Type 0 where
 
 -- then the expected returns' length under Sharpe (3), then the columns of return rows under a tail-risk metric (3); "n = 0 is 1, then 14"; 4; 16, 17; 6
 unfoldable pub downRuleLines : DownRules → List Line
-unfolding isSharpe isTailRisk
+unfolding isSharpe otherRows metricTailLines
 downRuleLines r =
     lengthLine (r .metric) (r .expected-given) (r .expected-length) (r .assets)
-    ∷ (isTailRisk (r .metric) && otherWidth (r .return-rows) (r .return-columns) (r .assets), DimensionMismatch)
+    ∷ (otherRows (r .metric) (r .return-rows) (r .return-columns) (r .assets), DimensionMismatch)
     ∷ (eqb (r .assets) 0, NoData)
     ∷ (not (isTree (r .rows) (r .assets)), NoTree)
     ∷ lackLine (r .metric) (not (r .expected-given))
-    ∷ (tailLines (isTailRisk (r .metric)) (r .return-rows) (r .confidence)
+    ∷ (metricTailLines (r .metric) (r .return-rows) (r .confidence)
     ++ (countLine (r .clusters) (r .assets) ∷ []))
 
 -- the sizes of a call, its buffer for the weights and its scratch

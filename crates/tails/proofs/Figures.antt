@@ -6,7 +6,7 @@ use mathlib.Core.Bool.{Bool, true, false, _&&_}
 use lib.Dec.{eqb}
 use lib.Ieee.{Float, nan, binary64, ofBits, toBits, isNan, lt, eq, le, mul, add, sub, div, neg, ofInt}
 use Rattle.tails.specs.Tail.{gain, rowReturn, tailSum, tailCount, mean, shortfall, wealth, higher, peak, fall, drawdown, conditionalDrawdown, shortfallOf, drawdownOf}
-use Rattle.tails.specs.Measures.{MeasureCall, measureSizeLines, measureShapeLines, lowLines, measureOutcome, shortfallAnswer, drawdownAnswer}
+use Rattle.tails.specs.Measures.{MeasureCall, measureSizeLines, measureShapeLines, measureOutcome, shortfallAnswer, drawdownAnswer}
 use Rattle.tails.specs.Inner.{measureCall}
 use Rattle.refusal.specs.Refusal.{numberOf}
 use Rattle.refusal.specs.Table.{first}
@@ -60,5 +60,5 @@ refuses (risk.Refused r) k = eqb (numberOf r) k
 calls : (gives (shortfallAnswer (of (0 ∷ []))) 0x4008000000000000 && gives (shortfallAnswer (of (1 ∷ []))) 0x3ff0000000000000 && gives (shortfallAnswer (of (0 ∷ 1 ∷ []))) 0x4000000000000000
     && gives (drawdownAnswer (of (0 ∷ []))) 0x4010000000000000
     && refuses (shortfallAnswer (measureCall [] 0 2 cov 2 2 (0 ∷ []) nan 1)) 16 && refuses (drawdownAnswer (measureCall rows 2 2 cov 2 2 (0 ∷ []) nan 3)) 17 && refuses (drawdownAnswer (measureCall rows 2 2 cov 2 2 (0 ∷ []) nan 2)) 11) ≡ true
-unfolding shortfallAnswer drawdownAnswer measureOutcome measureSizeLines measureShapeLines lowLines sizeTable overLimit otherLength outside anyListedLow recipSum recip shares anyTo first noPart shortfallOf drawdownOf gain rowReturn tailSum tailCount mean shortfall wealth higher peak fall drawdown conditionalDrawdown tab sumTo quantile place wholeOf sorted insertAll insert before hasMinus ofBits toBits isNan lt eq le mul add sub div neg countOf ofInt
+unfolding shortfallAnswer drawdownAnswer measureOutcome measureSizeLines measureShapeLines sizeTable overLimit otherLength outside anyListedLow recipSum recip shares anyTo first noPart shortfallOf drawdownOf gain rowReturn tailSum tailCount mean shortfall wealth higher peak fall drawdown conditionalDrawdown tab sumTo quantile place wholeOf sorted insertAll insert before hasMinus ofBits toBits isNan lt eq le mul add sub div neg countOf ofInt
 calls = refl

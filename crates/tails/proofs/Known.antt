@@ -16,7 +16,7 @@ use Rattle.clusters.specs.Clusters.{sizeTable, riskTable, notSquare, varianceOu
 use Rattle.clusters.specs.declared.Risk.the-variants as risk
 use Rattle.clusters.proofs.Sharing.{variance-outcome}
 use Rattle.tails.specs.Tail.{shortfallOf, drawdownOf}
-use Rattle.tails.specs.Measures.{measureSizeLines, measureShapeLines, tailLines, lowLines, measureOutcome, shortfallAnswer, drawdownAnswer}
+use Rattle.tails.specs.Measures.{measureSizeLines, measureShapeLines, tailLines, measureOutcome, shortfallAnswer, drawdownAnswer}
 use Rattle.tails.specs.Inner.{measureCall}
 
 no-other : (b c : Bool) → c ≡ true → (b && not c) ≡ false
@@ -26,7 +26,7 @@ no-other false c e = refl
 module _ (returns : List Float) (h : ℕ) (cov : List Float) (n : ℕ) (side : List ℕ) (q : Float) (room : ℕ) where
   measure-known : length returns ≡ h * n → overLimit h n ≡ false → 0 < h → noPart q ≡ false → h + 1 ≤ room → varianceOutcome cov n n side ≡ Done
       → measureOutcome (measureCall returns h n cov n n side q room) ≡ Done
-  unfolding measureOutcome measureSizeLines measureShapeLines lowLines varianceOutcome riskTable otherLength
+  unfolding measureOutcome measureSizeLines measureShapeLines varianceOutcome riskTable otherLength
   measure-known len limit some part roomy e =
       let m = measureCall returns h n cov n n side q room in
       let p = parts-done (sizeTable cov n n side) _ e in

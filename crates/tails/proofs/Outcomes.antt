@@ -20,12 +20,12 @@ use Rattle.lent.specs.declared.Answer.{Answer}
 use Rattle.lent.proofs.Sums.{any-no}
 use Rattle.lent.proofs.Sizes.{within-limit, same-length, told-as}
 use Rattle.ordering.proofs.Parts.{part-of}
-use Rattle.clusters.specs.Clusters.{nth, shares, outside, sizeTable, riskTable, sharesOutcome, sharesAnswer, sharesLaid, riskOf}
+use Rattle.clusters.specs.Clusters.{nth, shares, outside, lowLines, sizeTable, riskTable, sharesOutcome, sharesAnswer, sharesLaid, riskOf}
 use Rattle.clusters.specs.declared.Risk.{Risk}
 use Rattle.clusters.specs.declared.Risk.the-variants as risk
 use Rattle.clusters.proofs.Laws.{length-shares}
 use Rattle.tails.specs.Tail.{rowReturn, shortfall, conditionalDrawdown, shortfallOf, drawdownOf}
-use Rattle.tails.specs.Measures.{MeasureCall, measureSizeLines, measureShapeLines, tailLines, lowLines, measureOutcome, shortfallAnswer, drawdownAnswer}
+use Rattle.tails.specs.Measures.{MeasureCall, measureSizeLines, measureShapeLines, tailLines, measureOutcome, shortfallAnswer, drawdownAnswer}
 use Rattle.tails.specs.Inner.{TailReady}
 
 -- two lines that are told apart and then joined
@@ -74,13 +74,13 @@ module _ (m : MeasureCall) where
     pub of-shape : shape ≡ first (measureShapeLines m ++ tailLines true (m .return-rows) (m .confidence))
     pub of-both : said ≡ andThen sizes shape
 
-  whole : {said sizes shape : Outcome} → Judged said sizes shape → measureOutcome m ≡ andThen said (first (lowLines m))
+  whole : {said sizes shape : Outcome} → Judged said sizes shape → measureOutcome m ≡ andThen said (first (lowLines (m .covariance) (m .covariance-columns) (m .assets)))
   unfolding measureOutcome
   whole {said} {sizes} {shape} j =
       let a = j .of-sizes in
       let b = j .of-shape in
       let c = j .of-both in
-      staged (measureSizeLines m) (measureShapeLines m) (tailLines true (m .return-rows) (m .confidence)) (lowLines m) ∙ rw (c, a, b)
+      staged (measureSizeLines m) (measureShapeLines m) (tailLines true (m .return-rows) (m .confidence)) (lowLines (m .covariance) (m .covariance-columns) (m .assets)) ∙ rw (c, a, b)
 
   pub stays-refused : {said sizes shape : Outcome} → Judged said sizes shape → (r : Refusal) → said ≡ Refused r → Refused r ≡ measureOutcome m
   stays-refused j r e = sym (whole j ∙ then-refused _ _ r e)
@@ -89,8 +89,8 @@ module _ (m : MeasureCall) where
 
   module _ (s : first (measureSizeLines m) ≡ Done) (t : first (measureShapeLines m ++ tailLines true (m .return-rows) (m .confidence)) ≡ Done) where
     -- the weights are refused as the third stage is
-    shares-low : (room : ℕ) → room ≡ 64 → sharesOutcome (m .covariance) (m .covariance-rows) (m .covariance-columns) (m .assets) room ≡ first (lowLines m)
-    unfolding measureSizeLines sizeTable measureShapeLines sharesOutcome riskTable lowLines
+    shares-low : (room : ℕ) → room ≡ 64 → sharesOutcome (m .covariance) (m .covariance-rows) (m .covariance-columns) (m .assets) room ≡ first (lowLines (m .covariance) (m .covariance-columns) (m .assets))
+    unfolding measureSizeLines sizeTable measureShapeLines sharesOutcome riskTable
     shares-low room e =
         let a = none (measureSizeLines m) s in
         let b = none (measureShapeLines m ++ tailLines true (m .return-rows) (m .confidence)) t in
@@ -141,7 +141,7 @@ module _ (m : MeasureCall) where
     pub ready : length w ≡ 64 → said ≡ Done → TailReady (m .returns) (m .return-rows) (m .covariance-columns) (m .assets) w (m .confidence) (m .room)
     unfolding measureOutcome
     ready k d =
-        let p = both-done _ _ (sym (staged (measureSizeLines m) (measureShapeLines m) (tailLines true (m .return-rows) (m .confidence)) (lowLines m)) ∙ sym e ∙ d) in
+        let p = both-done _ _ (sym (staged (measureSizeLines m) (measureShapeLines m) (tailLines true (m .return-rows) (m .confidence)) (lowLines (m .covariance) (m .covariance-columns) (m .assets))) ∙ sym e ∙ d) in
         let q = both-done _ _ (p .0) in
         ready-of (q .0) (q .1) w (f d) k
 

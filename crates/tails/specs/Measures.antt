@@ -4,14 +4,13 @@ use mathlib.Core.Bool.{Bool, true, not, _&&_}
 use mathlib.Core.List.{List, [], _∷_, _++_}
 use lib.Dec.{ltb, eqb}
 use lib.ListN.{length}
-use lib.Ieee.{Float, le}
-use Rattle.arithmetic.specs.Constants.{pz}
+use lib.Ieee.{Float}
 use Rattle.refusal.specs.Table.{Line, first}
-use Rattle.refusal.specs.declared.Refusal.the-variants.{NoData, DimensionMismatch, OverLimit, SliceLength, ShortBuffer, NoTree, MissingReturnsForTailRisk, ConfidenceOutOfRange}
+use Rattle.refusal.specs.declared.Refusal.the-variants.{DimensionMismatch, OverLimit, SliceLength, ShortBuffer, MissingReturnsForTailRisk, ConfidenceOutOfRange}
 use Rattle.refusal.specs.declared.Outcome.{Outcome}
 use Rattle.lent.specs.Lent.{overLimit, otherLength}
 use Rattle.ordering.specs.Nearest.{noPart}
-use Rattle.clusters.specs.Clusters.{recipSum, outside, anyListedLow, sizeTable, notSquare, riskOf}
+use Rattle.clusters.specs.Clusters.{recipSum, outside, outsideLine, anyListedLow, lowLines, sizeTable, notSquare, riskOf}
 use Rattle.clusters.specs.declared.Risk.{Risk}
 use Rattle.tails.specs.Tail.{shortfallOf, drawdownOf}
 
@@ -46,24 +45,20 @@ unfolding outside
 measureShapeLines m =
     notSquare (m .covariance-rows) (m .covariance-columns)
     ∷ (otherWidth (m .return-rows) (m .return-columns) (m .covariance-columns), DimensionMismatch)
-    ∷ (outside (m .covariance-columns) (m .assets), NoTree)
+    ∷ outsideLine (m .covariance-columns) (m .assets)
     ∷ []
 
 -- "16, no return rows"; "17, under these two metrics, confidence NaN or outside 0 to 1, right after 16": `tailed` says whether the metric is one of the two
 abbrev pub tailLines : Bool → ℕ → Float → List Line
 tailLines tailed rows q = (tailed && eqb rows 0, MissingReturnsForTailRisk) ∷ (tailed && noPart q, ConfidenceOutOfRange) ∷ []
 
--- "a variance ≤ 0 1", reciprocals that sum to ≤ 0 1
-unfoldable pub lowLines : MeasureCall → List Line
-unfolding anyListedLow recipSum
-lowLines m =
-    (anyListedLow (m .covariance) (m .covariance-columns) (m .assets), NoData)
-    ∷ (le (recipSum (m .covariance) (m .covariance-columns) (m .assets)) pz, NoData)
-    ∷ []
-
+-- then a variance ≤ 0, or reciprocals that sum to ≤ 0 (1), as of any cluster
 unfoldable pub measureOutcome : MeasureCall → Outcome
-unfolding measureSizeLines measureShapeLines lowLines
-measureOutcome m = first (measureSizeLines m ++ (measureShapeLines m ++ (tailLines true (m .return-rows) (m .confidence) ++ lowLines m)))
+unfolding measureSizeLines measureShapeLines anyListedLow recipSum
+measureOutcome m =
+    first
+    (measureSizeLines m
+    ++ (measureShapeLines m ++ (tailLines true (m .return-rows) (m .confidence) ++ lowLines (m .covariance) (m .covariance-columns) (m .assets))))
 
 -- what the two calls return
 unfoldable pub shortfallAnswer : MeasureCall → Risk

@@ -34,7 +34,7 @@ refuse-requires-3 c κs = search needs
 
 returns : tie.Need-returns
 unfolding ruleLines expectedLines
-returns c xs w = simp (table, table-end, first-append) (rw (c .refuse3 .ensures, c .before .refuse2 .ensures, c .before .before .judge-tail .ensures (c .before .before .before .before .before .before .before .before .before .before .args .expected .now) xs, c .before .before .before .refuse .ensures, c .before .before .before .before .either .ensures, c .before .before .before .before .before .both3 .ensures, c .before .before .before .before .before .before .both2 .ensures, c .before .before .before .before .before .before .before .both .ensures, c .before .before .before .before .before .before .before .before .is-sharpe .ensures))
+returns c xs w = simp (table, table-end, first-append) (rw (c .refuse3 .ensures, c .before .refuse2 .ensures, c .before .before .judge-tail .ensures, c .before .before .before .refuse .ensures, c .before .before .before .before .either .ensures, c .before .before .before .before .before .both3 .ensures, c .before .before .before .before .before .before .both2 .ensures, c .before .before .before .before .before .before .before .both .ensures, c .before .before .before .before .before .before .before .before .is-sharpe .ensures))
 
 pub judge-rule-spec : {M : Type 1} → statement M
 judge-rule-spec =

@@ -25,7 +25,7 @@ refuse-requires-2 c κs = search needs
 
 returns : tie.Need-returns
 unfolding metricTailLines
-returns c e xs = rw (c .refuse2 .ensures, c .before .refuse .ensures, c .before .before .both2 .ensures, c .before .before .before .is-no-part .ensures, c .before .before .before .before .both .ensures, c .before .before .before .before .before .is-tail-risk .ensures) (lines-then _ _ _ _ _)
+returns c = rw (c .refuse2 .ensures, c .before .refuse .ensures, c .before .before .both2 .ensures, c .before .before .before .is-no-part .ensures, c .before .before .before .before .both .ensures, c .before .before .before .before .before .is-tail-risk .ensures) (lines-then _ _ _ _ _)
 
 pub judge-tail-spec : {M : Type 1} → statement M
 judge-tail-spec =
