@@ -55,9 +55,7 @@ use Rattle.inputs.specs.Inputs.{absent, rowsOfShape, otherColumns, otherSize, m
 use Rattle.arranging.specs.Arranging.{distancesIn, treeRows, treeOrder}
 use Rattle.parity.specs.Parity as parity
 use Rattle.hierarchy.specs.Hierarchy as hierarchy
-use Rattle.hrp.specs.Inner.{hrpJob}
 use Rattle.hrp.specs.Hrp as hrp
-use Rattle.hcaa.specs.Inner.{hcaaJob}
 use Rattle.hcaa.specs.Hcaa as hcaa
 use Rattle.hcaa.specs.declared.Clusters.{Clusters}
 use Rattle.hcaa.specs.declared.Clusters.the-variants.{All, Count}
@@ -159,7 +157,24 @@ trees =
 
 -- n assets of this covariance: a metric, clusters, distance and linkage
 abbrev given : ℕ → List Float → List ℕ → Clusters → Distance → Linkage → hcaa.HcaaJob
-given n cov metric k d l = hcaaJob n [] Absent [] Absent cov (Of n n) [] false metric [] (ofBits binary64 half) k [] d l
+given n cov metric k d l = record {
+  assets = n;
+  prices = [];
+  prices-shape = Absent;
+  returns = [];
+  returns-shape = Absent;
+  covariance = cov;
+  covariance-shape = Of n n;
+  expected = [];
+  expected-given = false;
+  metric = metric;
+  method = [];
+  confidence = ofBits binary64 half;
+  clusters = k;
+  resample-by = [];
+  distance = d;
+  linkage = l;
+}
 
 -- what a call says; then, by its outcome, the bits of the weights, their millionths, and the leaf order, in buffers of just the sizes that n assets ask
 abbrev buffers : Outcome → hcaa.HcaaJob → ℕ → List ℕ
@@ -215,8 +230,28 @@ hcaas =
 
 -- ---- document 02, request 1: two assets of unit covariance, with rows of returns and a confidence
 
+abbrev risky : List ℕ → ℕ → List ℕ → ℕ → Clusters → hcaa.HcaaJob
+risky metric h cells q k = record {
+  assets = 2;
+  prices = [];
+  prices-shape = Absent;
+  returns = doubles cells;
+  returns-shape = Of h 2;
+  covariance = diagonal one one;
+  covariance-shape = Of 2 2;
+  expected = [];
+  expected-given = false;
+  metric = metric;
+  method = [];
+  confidence = ofBits binary64 q;
+  clusters = k;
+  resample-by = [];
+  distance = Correlation;
+  linkage = Single;
+}
+
 abbrev tailed : List ℕ → ℕ → List ℕ → ℕ → Clusters → List ℕ
-tailed metric h cells q k = shared (hcaaJob 2 [] Absent (doubles cells) (Of h 2) (diagonal one one) (Of 2 2) [] false metric [] (ofBits binary64 q) k [] Correlation Single) 2
+tailed metric h cells q k = shared (risky metric h cells q k) 2
 
 abbrev tails : List Bool
 tails =
@@ -237,7 +272,18 @@ tails =
 
 -- a covariance of n assets; what the call says, and the bits of the weights
 abbrev halving : Distance → ℕ → List Float → hrp.HrpJob
-halving d n cov = hrpJob n [] Absent [] Absent cov (Of n n) [] false d
+halving d n cov = record {
+  assets = n;
+  prices = [];
+  prices-shape = Absent;
+  returns = [];
+  returns-shape = Absent;
+  covariance = cov;
+  covariance-shape = Of n n;
+  resample-by = [];
+  use-shrinkage = false;
+  distance = d;
+}
 
 abbrev weighed : Outcome → hrp.HrpJob → ℕ → List ℕ
 weighed o j n = told o ++ bits (laid pz o n (weightsIn (parity.hrpShares (j .distance) (hrp.hrpCovariance j) n)))

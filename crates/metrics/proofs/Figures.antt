@@ -25,8 +25,7 @@ use Rattle.metrics.specs.declared.NamedMetric.the-variants as metric
 use Rattle.metrics.specs.declared.Splitting.{Splitting}
 use Rattle.metrics.specs.declared.Splitting.the-variants as splitting
 use Rattle.metrics.specs.Names.{metricNamed}
-use Rattle.metrics.specs.Split.{bounded, splitBy, byRisk, fair, byRatio, scoredAnswer, splitAnswer}
-use Rattle.metrics.specs.Inner.{inputs}
+use Rattle.metrics.specs.Split.{Inputs, bounded, splitBy, byRisk, fair, byRatio, scoredAnswer, splitAnswer}
 
 abbrev all : List Bool → Bool
 all [] = true
@@ -77,13 +76,21 @@ no-number = 0x7ff8_0000_0000_0000
 abbrev floats : List ℕ → List Float
 floats xs = map (ofBits binary64) xs
 
--- asset 0 against asset 1, 0 off the diagonal, with expected returns and no rows of returns
+-- expected returns, and no rows of returns
+abbrev expecting : List ℕ → Inputs
+expecting xs = record { expected = floats xs; returns = []; return-rows = 0; confidence = ofBits binary64 p0 }
+
+-- rows of returns and a confidence
+abbrev measured : List ℕ → ℕ → ℕ → Inputs
+measured returns rows confidence = record { expected = []; returns = floats returns; return-rows = rows; confidence = ofBits binary64 confidence }
+
+-- asset 0 against asset 1, 0 off the diagonal
 abbrev split : Metric → List ℕ → ℕ → ℕ → List ℕ
-split m expected a b = told-of (splitAnswer m (inputs (floats expected) [] 0 (ofBits binary64 p0)) (floats (a ∷ p0 ∷ p0 ∷ b ∷ [])) 2 (0 ∷ []) (1 ∷ []) 0)
+split m expected a b = told-of (splitAnswer m (expecting expected) (floats (a ∷ p0 ∷ p0 ∷ b ∷ [])) 2 (0 ∷ []) (1 ∷ []) 0)
 
 -- two assets of variance 1, and rows of two returns
 abbrev risky : Metric → List ℕ → ℕ → ℕ → ℕ → List ℕ
-risky m returns rows confidence room = told-of (splitAnswer m (inputs [] (floats returns) rows (ofBits binary64 confidence)) (floats (one ∷ p0 ∷ p0 ∷ one ∷ [])) 2 (0 ∷ []) (1 ∷ []) room)
+risky m returns rows confidence room = told-of (splitAnswer m (measured returns rows confidence) (floats (one ∷ p0 ∷ p0 ∷ one ∷ [])) 2 (0 ∷ []) (1 ∷ []) room)
 
 abbrev two-rows : List ℕ
 two-rows = minus-three ∷ minus ∷ one ∷ minus ∷ []

@@ -25,10 +25,8 @@ use Rattle.tails.specs.Tail.{gain, rowReturn, tailSum, tailCount, mean, shortfa
 use Rattle.metrics.specs.declared.Metric.{Metric}
 use Rattle.metrics.specs.declared.Metric.the-variants.{MinimumVariance, MinimumStandardDeviation, SharpeRatio, EqualWeighting, ExpectedShortfall}
 use Rattle.metrics.specs.Split.{Inputs, bounded, splitBy, byRisk, fair, byRatio, scored, splitOf}
-use Rattle.metrics.specs.Inner.{inputs}
 use Rattle.sharing.specs.Allot.{spreadOf, equalOf, dealTo, variedOf, insideOf, allotted, downShares}
 use Rattle.sharing.specs.Down.{isSharpe, isTailRisk, otherRows, metricTailLines, DownCall, downSizeLines, downRuleLines, downGiven, downTable, downOutcome, downAnswer, downWeights}
-use Rattle.sharing.specs.Inner.{downCall}
 
 abbrev all : List Bool → Bool
 all [] = true
@@ -88,19 +86,82 @@ floats xs = map (ofBits binary64) xs
 
 -- expected returns, and no rows of returns
 abbrev expecting : List ℕ → Inputs
-expecting xs = inputs (floats xs) [] 0 (ofBits binary64 p0)
+expecting xs = record { expected = floats xs; returns = []; return-rows = 0; confidence = ofBits binary64 p0 }
 
 -- the job of document 01: A and B are 0.5 apart, C is alone
 abbrev job : ℕ → DownCall
-job k = downCall EqualWeighting (expecting []) false 0 (floats (one ∷ half ∷ p0 ∷ half ∷ one ∷ p0 ∷ p0 ∷ p0 ∷ one ∷ [])) 3 3 (0 ∷ 1 ∷ 2 ∷ 3 ∷ []) 3 k
+job k = record {
+  metric = EqualWeighting;
+  inputs = expecting [];
+  expected-given = false;
+  return-columns = 0;
+  covariance = floats (one ∷ half ∷ p0 ∷ half ∷ one ∷ p0 ∷ p0 ∷ p0 ∷ one ∷ []);
+  covariance-rows = 3;
+  covariance-columns = 3;
+  rows = 0 ∷ 1 ∷ 2 ∷ 3 ∷ [];
+  assets = 3;
+  clusters = k;
+}
+
+-- one asset of variance −1
+abbrev alone : DownCall
+alone = record {
+  metric = MinimumVariance;
+  inputs = expecting [];
+  expected-given = false;
+  return-columns = 0;
+  covariance = floats (minus ∷ []);
+  covariance-rows = 1;
+  covariance-columns = 1;
+  rows = [];
+  assets = 1;
+  clusters = 1;
+}
 
 -- two assets, 0 off the diagonal
 abbrev pair : Metric → List ℕ → Bool → ℕ → ℕ → ℕ → DownCall
-pair m expected given a b k = downCall m (expecting expected) given 0 (floats (a ∷ p0 ∷ p0 ∷ b ∷ [])) 2 2 (0 ∷ 1 ∷ []) 2 k
+pair m expected given a b k = record {
+  metric = m;
+  inputs = expecting expected;
+  expected-given = given;
+  return-columns = 0;
+  covariance = floats (a ∷ p0 ∷ p0 ∷ b ∷ []);
+  covariance-rows = 2;
+  covariance-columns = 2;
+  rows = 0 ∷ 1 ∷ [];
+  assets = 2;
+  clusters = k;
+}
+
+-- A and B of variances 1 and 3 in one cluster, whose row has B first
+abbrev turned : DownCall
+turned = record {
+  metric = MinimumVariance;
+  inputs = expecting [];
+  expected-given = false;
+  return-columns = 0;
+  covariance = floats (one ∷ p0 ∷ p0 ∷ three ∷ []);
+  covariance-rows = 2;
+  covariance-columns = 2;
+  rows = 1 ∷ 0 ∷ [];
+  assets = 2;
+  clusters = 1;
+}
 
 -- two assets of variance 1, 0 off the diagonal, and rows of two returns
 abbrev risky : Metric → List ℕ → ℕ → ℕ → DownCall
-risky m returns rows confidence = downCall m (inputs [] (floats returns) rows (ofBits binary64 confidence)) false 2 (floats (one ∷ p0 ∷ p0 ∷ one ∷ [])) 2 2 (0 ∷ 1 ∷ []) 2 2
+risky m returns rows confidence = record {
+  metric = m;
+  inputs = record { expected = []; returns = floats returns; return-rows = rows; confidence = ofBits binary64 confidence };
+  expected-given = false;
+  return-columns = 2;
+  covariance = floats (one ∷ p0 ∷ p0 ∷ one ∷ []);
+  covariance-rows = 2;
+  covariance-columns = 2;
+  rows = 0 ∷ 1 ∷ [];
+  assets = 2;
+  clusters = 2;
+}
 
 abbrev figure-list : List Bool
 figure-list =
@@ -114,11 +175,11 @@ figure-list =
     ∷ same (shared (pair EqualWeighting [] false big one 2) 2) (1 ∷ p0 ∷ p0 ∷ [])
     ∷ same (shared (pair EqualWeighting [] false big one 1) 2) (0 ∷ 1 ∷ 2 ∷ half ∷ half ∷ [])
     -- a variance that neither a side nor a cut by inverse variance reads is not looked at
-    ∷ same (shared (downCall MinimumVariance (expecting []) false 0 (floats (minus ∷ [])) 1 1 [] 1 1) 1) (0 ∷ 1 ∷ 1 ∷ one ∷ [])
+    ∷ same (shared alone 1) (0 ∷ 1 ∷ 1 ∷ one ∷ [])
     ∷ same (shared (pair EqualWeighting [] false minus one 1) 2) (0 ∷ 1 ∷ 2 ∷ half ∷ half ∷ [])
     ∷ same (shared (pair MinimumVariance [] false minus one 1) 2) (1 ∷ p0 ∷ p0 ∷ [])
     -- a cut cluster's parts go by its leaves, here B and then A, and not by the assets' numbers
-    ∷ same (shared (downCall MinimumVariance (expecting []) false 0 (floats (one ∷ p0 ∷ p0 ∷ three ∷ [])) 2 2 (1 ∷ 0 ∷ []) 2 1) 2) (0 ∷ 1 ∷ 2 ∷ most ∷ quarter ∷ [])
+    ∷ same (shared turned 2) (0 ∷ 1 ∷ 2 ∷ most ∷ quarter ∷ [])
     -- the factors
     ∷ same (shared (pair MinimumVariance [] false one three 2) 2) (0 ∷ 1 ∷ 2 ∷ most ∷ quarter ∷ [])
     ∷ same (shared (pair MinimumStandardDeviation [] false one nine 2) 2) (0 ∷ 1 ∷ 2 ∷ most ∷ quarter ∷ [])

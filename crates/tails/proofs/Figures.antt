@@ -7,7 +7,6 @@ use lib.Dec.{eqb}
 use lib.Ieee.{Float, nan, binary64, ofBits, toBits, isNan, lt, eq, le, mul, add, sub, div, neg, ofInt}
 use Rattle.tails.specs.Tail.{gain, rowReturn, tailSum, tailCount, mean, shortfall, wealth, higher, peak, fall, drawdown, conditionalDrawdown, shortfallOf, drawdownOf}
 use Rattle.tails.specs.Measures.{MeasureCall, measureSizeLines, measureShapeLines, measureOutcome, shortfallAnswer, drawdownAnswer}
-use Rattle.tails.specs.Inner.{measureCall}
 use Rattle.refusal.specs.Refusal.{numberOf}
 use Rattle.refusal.specs.Table.{first}
 use Rattle.lent.specs.Grid.{tab, sumTo, anyTo}
@@ -45,7 +44,31 @@ abbrev rows : List Float
 rows = map (ofBits binary64) (0xc008000000000000 ∷ 0xbff0000000000000 ∷ 0x3ff0000000000000 ∷ 0xbff0000000000000 ∷ [])
 
 abbrev of : List ℕ → MeasureCall
-of assets = measureCall rows 2 2 cov 2 2 assets (ofBits binary64 0x3fe0000000000000) 3
+of assets = record {
+  returns = rows;
+  return-rows = 2;
+  return-columns = 2;
+  covariance = cov;
+  covariance-rows = 2;
+  covariance-columns = 2;
+  assets = assets;
+  confidence = ofBits binary64 0x3fe0000000000000;
+  room = 3;
+}
+
+-- asset 0, of so many rows of returns, with the confidence NaN and a buffer of so many doubles
+abbrev unsure : List Float → ℕ → ℕ → MeasureCall
+unsure returns return-rows room = record {
+  returns = returns;
+  return-rows = return-rows;
+  return-columns = 2;
+  covariance = cov;
+  covariance-rows = 2;
+  covariance-columns = 2;
+  assets = 0 ∷ [];
+  confidence = nan;
+  room = room;
+}
 
 abbrev gives : Risk → ℕ → Bool
 gives (risk.Of x) b = eqb (toBits binary64 x) b
@@ -59,6 +82,6 @@ refuses (risk.Refused r) k = eqb (numberOf r) k
 -- No rows are 16, before the confidence NaN is 17; a buffer of 2 for two rows is 11, before both.
 calls : (gives (shortfallAnswer (of (0 ∷ []))) 0x4008000000000000 && gives (shortfallAnswer (of (1 ∷ []))) 0x3ff0000000000000 && gives (shortfallAnswer (of (0 ∷ 1 ∷ []))) 0x4000000000000000
     && gives (drawdownAnswer (of (0 ∷ []))) 0x4010000000000000
-    && refuses (shortfallAnswer (measureCall [] 0 2 cov 2 2 (0 ∷ []) nan 1)) 16 && refuses (drawdownAnswer (measureCall rows 2 2 cov 2 2 (0 ∷ []) nan 3)) 17 && refuses (drawdownAnswer (measureCall rows 2 2 cov 2 2 (0 ∷ []) nan 2)) 11) ≡ true
+    && refuses (shortfallAnswer (unsure [] 0 1)) 16 && refuses (drawdownAnswer (unsure rows 2 3)) 17 && refuses (drawdownAnswer (unsure rows 2 2)) 11) ≡ true
 unfolding shortfallAnswer drawdownAnswer measureOutcome measureSizeLines measureShapeLines sizeTable overLimit otherLength outside anyListedLow recipSum recip shares anyTo first noPart shortfallOf drawdownOf gain rowReturn tailSum tailCount mean shortfall wealth higher peak fall drawdown conditionalDrawdown tab sumTo quantile place wholeOf sorted insertAll insert before hasMinus ofBits toBits isNan lt eq le mul add sub div neg countOf ofInt
 calls = refl
