@@ -266,9 +266,9 @@ pub fn split_factor(
     let a = clusters::cluster_variance(cov, n, n, left);
     let b = clusters::cluster_variance(cov, n, n, right);
     match a {
-        Risk::Refused(k) => Splitting::Refused(k),
+        Risk::Refused(of_left) => Splitting::Refused(of_left),
         Risk::Of(l) => match b {
-            Risk::Refused(k) => Splitting::Refused(k),
+            Risk::Refused(of_right) => Splitting::Refused(of_right),
             Risk::Of(r) => {
                 score(
                     metric,
