@@ -16,13 +16,13 @@ enum-told : tie.Need-enum-told
 enum-told c = search needs
 
 same-length : tie.Need-same-length
-same-length c = search needs
+same-length c = c .before .before .before .before .read .kept .0
 
 returns : tie.Need-returns
 returns c = search needs
 
 same-length-2 : tie.Need-same-length-2
-same-length-2 c = search needs
+same-length-2 c = c .before .before .before .before .before .before .read .kept .0
 
 returns-2 : tie.Need-returns-2
 returns-2 c = (c .if1 .taken, sym (length-take-le _ _ (omega (arith, c .if1 .taken))))
@@ -34,7 +34,7 @@ write-all-requires : tie.Need-write-all-requires
 write-all-requires c κs = search needs
 
 same-length-3 : tie.Need-same-length-3
-same-length-3 c = search needs
+same-length-3 c = c .before .before .before .before .before .before .before .before .read .kept .0
 
 returns-3 : tie.Need-returns-3
 returns-3 c = search needs

@@ -1,6 +1,7 @@
 -- `reading::judge` meets its contract. Assumes nothing.
+use mathlib.Core.Path.{refl}
 use borrow.Author.Needs.{needs}
-use Rattle.refusal.proofs.Tables.{table, table-end}
+use Rattle.refusal.proofs.Tables.{said-line, said-last}
 use Rattle.reading.specs.Inner.{textSizeLines}
 use Rattle.reading.proofs.judge.Statement.{statement}
 use Rattle.reading.proofs.judge.Tie as tie
@@ -16,7 +17,7 @@ refuse-requires-3 c κs = search needs
 
 returns : tie.Need-returns
 unfolding textSizeLines
-returns c = simp (table, table-end) (cc)
+returns c = said-line _ _ _ _ _ _ refl (said-line _ _ _ _ _ _ refl (said-last _ _ _ _ refl (c .before .before .refuse .ensures)) (c .before .refuse2 .ensures)) (c .refuse3 .ensures)
 
 pub judge-spec : {M : Type 1} → statement M
 judge-spec = tie.close (tie.spec refuse-requires refuse-requires-2 refuse-requires-3 returns)

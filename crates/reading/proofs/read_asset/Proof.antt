@@ -35,7 +35,7 @@ read-row-requires c κs =
     omega (arith, e .end-of .ensures, end-le 9 (s .args .line .now) 0 (omega arith))
 
 same-length : tie.Need-same-length
-same-length c = search needs
+same-length c = c .before .before .read-row .kept .1 .1 .0
 
 returns-2 : tie.Need-returns-2
 returns-2 c =

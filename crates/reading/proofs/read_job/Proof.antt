@@ -22,10 +22,10 @@ enum-known-said : tie.Need-enum-known-said
 enum-known-said c = search needs
 
 same-length : tie.Need-same-length
-same-length c = search needs
+same-length c = c .before .before .before .before .before .before .before .before .before .clear .kept .0
 
 same-length-2 : tie.Need-same-length-2
-same-length-2 c = search needs
+same-length-2 c = c .before .before .before .before .before .clear-numbers .kept .0
 
 returns : tie.Need-returns
 returns c =
@@ -50,10 +50,10 @@ enum-told-2 : tie.Need-enum-told-2
 enum-told-2 c = search needs
 
 same-length-3 : tie.Need-same-length-3
-same-length-3 c = search needs
+same-length-3 c = c .before .before .before .before .before .read-text .kept .1 .0 ∙ c .before .before .before .before .before .before .before .before .before .before .before .before .before .before .before .before .clear .kept .0
 
 same-length-4 : tie.Need-same-length-4
-same-length-4 c = search needs
+same-length-4 c = c .before .before .before .before .before .read-text .kept .1 .1 .0 ∙ c .before .before .before .before .before .before .before .before .before .before .before .before .clear-numbers .kept .0
 
 returns-2 : tie.Need-returns-2
 returns-2 c =
@@ -74,10 +74,10 @@ clear-numbers-from-requires : tie.Need-clear-numbers-from-requires
 clear-numbers-from-requires c κs = search needs
 
 same-length-5 : tie.Need-same-length-5
-same-length-5 c = search needs
+same-length-5 c = c .before .before .before .before .before .before .clear-from .kept .0 ∙ c .before .before .before .before .before .before .before .before .before .before .before .before .before .before .read-text .kept .1 .0 ∙ c .before .before .before .before .before .before .before .before .before .before .before .before .before .before .before .before .before .before .before .before .before .before .before .before .before .clear .kept .0
 
 same-length-6 : tie.Need-same-length-6
-same-length-6 c = search needs
+same-length-6 c = c .before .before .clear-numbers-from .kept .0 ∙ c .before .before .before .before .before .before .before .before .before .before .before .before .before .before .read-text .kept .1 .1 .0 ∙ c .before .before .before .before .before .before .before .before .before .before .before .before .before .before .before .before .before .before .before .before .before .clear-numbers .kept .0
 
 returns-3 : tie.Need-returns-3
 returns-3 c =

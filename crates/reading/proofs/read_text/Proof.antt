@@ -42,19 +42,19 @@ read-assets-requires c κs =
     (cut-is _ _ (k .count .ensures) (i1 .if1 .left), (omega (arith, mul-le-mul (i .if2 .left) (i .if2 .left), s .pre .1 .0), omega (arith, i .if2 .left, s .pre .1 .1)))
 
 same-length : tie.Need-same-length
-same-length c = search needs
+same-length c = c .before .before .before .before .before .read-assets .kept .1 .1 .0
 
 same-length-2 : tie.Need-same-length-2
-same-length-2 c = search needs
+same-length-2 c = c .before .before .before .before .before .read-assets .kept .1 .1 .1 .0
 
 returns-3 : tie.Need-returns-3
 returns-3 c = text-bad _ _ _ _ _ (job-unlined _ (sym (c .before .before .before .before .before .read-assets .ensures .told) ∙ not-true _ (c .if3 .taken)))
 
 same-length-3 : tie.Need-same-length-3
-same-length-3 c = search needs
+same-length-3 c = c .before .before .before .before .before .read-assets .kept .1 .1 .0
 
 same-length-4 : tie.Need-same-length-4
-same-length-4 c = search needs
+same-length-4 c = c .before .before .before .before .before .read-assets .kept .1 .1 .1 .0
 
 returns-4 : tie.Need-returns-4
 returns-4 c =
