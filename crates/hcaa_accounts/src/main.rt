@@ -4,16 +4,10 @@ use channel::Input;
 use hcaa::Clusters;
 use linkage::Distance;
 use linkage::Linkage;
+use recorded::Expected;
 use recorded::Matrices;
 use recorded::Place;
 use refusal::Outcome;
-
-// Expected returns that were read, and the place after them.
-struct Expected {
-    given: bool,
-    len: usize,
-    at: usize,
-}
 
 // What an account of HCAA begins with, and the place of its first matrix.
 struct Outset {
@@ -114,16 +108,6 @@ fn opening(text: &[u8], at: usize, names: &mut Names) -> Outset {
         named: named.value as usize,
         assets: assets.value as usize,
         at: assets.at,
-    }
-}
-
-fn expectation(text: &[u8], at: usize, cells: &mut Cells) -> Expected {
-    let given = recorded::next(text, at);
-    let len = recorded::doubles_to(text, given.at, cells, recorded::EXPECTED);
-    Expected {
-        given: given.value != 0,
-        len: len.value as usize,
-        at: len.at,
     }
 }
 
@@ -271,7 +255,7 @@ fn account(text: &[u8], from: Place, b: Buffers, told: &mut [u8]) -> Step {
     let mut cells = [1.5; 13312];
     let h = opening(text, from.at, &mut names);
     let m = recorded::matrices_to(text, h.at, &mut cells);
-    let e = expectation(text, m.at, &mut cells);
+    let e = recorded::expected_to(text, m.at, &mut cells);
     let room = lent_rooms(text, e.at);
     let ran = in_buffers(b, room, h, m, e, &names, &cells);
     let end = tell(ran, h.assets, room, told, from.end);

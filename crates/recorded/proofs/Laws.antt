@@ -120,6 +120,13 @@ unfolding matricesPlace
 matrices-place text at p q r room l m h k e f g =
     g ∙ ap (λ (n : ℕ). matrixPlace text q (n - 8704)) k ∙ ap (λ (n : ℕ). matrixPlace text n (room - 8704)) (f ∙ ap (λ (n : ℕ). matrixPlace text p (n - 4352)) h ∙ ap (λ (n : ℕ). matrixPlace text n (room - 4352)) (e ∙ ap (matrixPlace text at) (sub-zero room)))
 
+-- of expected returns: the flag, and the place after the doubles that follow it
+pub flag-read : (text : List ℕ) (at v : ℕ) → v ≡ nextValue text at → isSet v ≡ isSet (tokenAt text at 0)
+flag-read text at v e = ap isSet (token-first text at v e)
+
+pub next-part : (text : List ℕ) (at a r room : ℕ) → a ≡ nextPlace text at → r ≡ partPlace text a room → r ≡ partPlace text (nextPlace text at) room
+next-part text at a r room e f = f ∙ ap (λ (k : ℕ). partPlace text k room) e
+
 pub shape-read : (o : Shape) (g h r s w v : ℕ) → o ≡ shapeOf (isSet g) r w → g ≡ h → r ≡ s → w ≡ v → o ≡ shapeOf (isSet h) s v
 shape-read o g h r s w v e f p q = e ∙ ap (λ (k : ℕ). shapeOf (isSet k) r w) f ∙ ap (λ (k : ℕ). shapeOf (isSet h) k w) p ∙ ap (λ (k : ℕ). shapeOf (isSet h) s k) q
 

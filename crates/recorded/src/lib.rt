@@ -40,6 +40,13 @@ pub struct Matrices {
     pub at: usize,
 }
 
+// Expected returns that were read but for their doubles, and the place after them.
+pub struct Expected {
+    pub given: bool,
+    pub len: usize,
+    pub at: usize,
+}
+
 // The doubles of a call stand in one list, each part from a place of its own on, the first matrix from 0. None is longer than its part.
 pub const RETURNS: usize = 4352;
 
@@ -204,6 +211,21 @@ pub fn matrices_to(text: &[u8], at: usize, cells: &mut [f64]) -> Matrices
         returns,
         covariance,
         at: covariance.at,
+    }
+}
+
+// Whether expected returns are given, and their doubles to the place EXPECTED on.
+pub fn expected_to(text: &[u8], at: usize, cells: &mut [f64]) -> Expected
+    ensures { λ r. ⌜ r .given ≡ isSet (tokenAt (now (text .entry)) at 0) ⌝ }
+    ensures { λ r. ⌜ r .len ≡ tokenAt (now (text .entry)) at 1 ⌝ }
+    ensures { λ r. ⌜ r .at ≡ partPlace (now (text .entry)) (nextPlace (now (text .entry)) at) (length (now (cells .entry)) - 13056) ⌝ }
+{
+    let given = next(text, at);
+    let len = doubles_to(text, given.at, cells, EXPECTED);
+    Expected {
+        given: given.value != 0,
+        len: len.value as usize,
+        at: len.at,
     }
 }
 

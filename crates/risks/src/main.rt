@@ -3,6 +3,7 @@
 use channel::Input;
 use clusters::Risk;
 use lent::Answer;
+use recorded::Expected;
 use recorded::Place;
 use sharing::Metric;
 
@@ -27,13 +28,6 @@ struct Table {
 struct Level {
     confidence: f64,
     room: usize,
-    at: usize,
-}
-
-// Expected returns that were read, and the place after them.
-struct Expected {
-    given: bool,
-    len: usize,
     at: usize,
 }
 
@@ -85,16 +79,6 @@ fn level_at(text: &[u8], at: usize) -> Level {
         confidence: arithmetic::from_bits(confidence.value),
         room: room.value as usize,
         at: room.at,
-    }
-}
-
-fn expectation(text: &[u8], at: usize, cells: &mut Cells) -> Expected {
-    let given = recorded::next(text, at);
-    let len = recorded::doubles_to(text, given.at, cells, recorded::EXPECTED);
-    Expected {
-        given: given.value != 0,
-        len: len.value as usize,
-        at: len.at,
     }
 }
 
@@ -315,7 +299,7 @@ fn share(
 
 fn shares(text: &[u8], from: Place, cells: &mut Cells, list: &mut Ids, told: &mut [u8]) -> Place {
     let h = asked_sharing(text, from.at);
-    let e = expectation(text, h.at, cells);
+    let e = recorded::expected_to(text, h.at, cells);
     let r = table_to(text, e.at, cells, recorded::RETURNS);
     let l = level_at(text, r.at);
     let m = matrix_and_list(text, l.at, cells, list);
