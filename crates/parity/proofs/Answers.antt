@@ -7,6 +7,7 @@ use native.Mathlib.Omega.{arith}
 use borrow.Author.Tests.{ltb-false, eqb-false, eqb-true, not-false}
 use lib.Dec.{eqb}
 use lib.ListN.{length, take}
+use lib.Seq.{take-append-le}
 use lib.Ieee.{Float}
 use Rattle.arithmetic.specs.Constants.{pz}
 use Rattle.refusal.specs.Table.{Line, first, orElse, andThen}
@@ -18,7 +19,6 @@ use Rattle.refusal.proofs.Tables.{done-refused, table, table-end, none, first-a
 use Rattle.lent.specs.Grid.{zeros}
 use Rattle.lent.specs.Lent.{sizes, laid, toldOf}
 use Rattle.lent.specs.declared.Answer.{Answer}
-use Rattle.lent.proofs.Laws.{square-in}
 use Rattle.lent.proofs.Sizes.{sized-done, laid-refused}
 use Rattle.stats.specs.Covariance.{anyLow}
 use Rattle.distances.specs.declared.Measure.the-variants.{Hrp}
@@ -61,8 +61,9 @@ ready said len rows w room h =
           };
     }
 
-pub arrangeable : (len n : ℕ) (room : ParityRoom) (corr : List Float) → ParitySized len n room → length corr ≡ n * n → Arrangeable (length corr) n n (record { rows = room .rows; order = room .order; distances = room .scratch })
-arrangeable len n room corr p e =
+-- with a part of n by n of the scratch for the distances
+pub arrangeable : (len n : ℕ) (room : ParityRoom) (corr : List Float) (part : ℕ) → ParitySized len n room → length corr ≡ n * n → part ≡ n * n → Arrangeable (length corr) n n (record { rows = room .rows; order = room .order; distances = part })
+arrangeable len n room corr part p e f =
     record {
       some = p .some;
       wide = p .few;
@@ -70,7 +71,7 @@ arrangeable len n room corr p e =
       cells = e;
       for-rows = p .for-rows;
       for-order = p .for-order;
-      for-distances = omega (arith, square-in n (p .few), p .for-scratch);
+      for-distances = omega arith;
     }
 
 -- ---- the tables
@@ -99,13 +100,14 @@ module _ (d : Distance) (cov : List Float) where
             filled = λ g. absurd (done-refused k (sym g ∙ h));
           }
 
-      module _ (p : ParitySized (length cov) n room) (corr mid : List Float) (q : corr ≡ correlationsOf cov n) (e : length corr ≡ n * n) (said₁ : Outcome)
-          (t : Arranged Hrp d Single corr n n (record { rows = room .rows; order = room .order; distances = room .scratch }) said₁ rows order mid) where
+      -- mid is the part that comes back, rest what lies past it
+      module _ (p : ParitySized (length cov) n room) (corr mid rest : List Float) (q : corr ≡ correlationsOf cov n) (e : length corr ≡ n * n) (part : ℕ) (f : part ≡ n * n) (kept : length mid ≡ part) (said₁ : Outcome)
+          (t : Arranged Hrp d Single corr n n (record { rows = room .rows; order = room .order; distances = part }) said₁ rows order mid) where
         front : take n order ≡ treeOrder Hrp d Single corr n
-        front = order-front Hrp d Single corr n _ said₁ rows order mid (arrangeable (length cov) n room corr p e) t
+        front = order-front Hrp d Single corr n _ said₁ rows order mid (arrangeable (length cov) n room corr part p e f) t
 
-        far : take (n * n) mid ≡ distancesIn Hrp corr n
-        far = distances-front Hrp d Single corr n _ said₁ rows order mid (arrangeable (length cov) n room corr p e) t
+        far : take (n * n) (mid ++ rest) ≡ distancesIn Hrp corr n
+        far = take-append-le (n * n) mid rest (omega arith) ∙ distances-front Hrp d Single corr n _ said₁ rows order mid (arrangeable (length cov) n room corr part p e f) t
 
         each : isOrder (take n order) n ≡ true
         each = rw front (order-each Hrp d Single corr n (p .some) (p .few))
@@ -115,12 +117,12 @@ module _ (d : Distance) (cov : List Float) where
         order-is = front ∙ ap (λ (x : List Float). treeOrder Hrp d Single x n) q
 
         pub worked-done : (low r : Outcome) (a : Answer) → said ≡ Done → low ≡ orElse (anyLow cov n) NoData Done → low ≡ Done
-            → correlations ≡ seriated corr n n (take n order) (room .correlations) → distances ≡ seriated (take (n * n) mid) n n (take n order) (room .distances) → (s : ℕ) → s ≡ room .scratch → scratch ≡ zeros s
+            → correlations ≡ seriated corr n n (take n order) (room .correlations) → (x : ℕ) → x ≡ room .distances → distances ≡ seriated (take (n * n) (mid ++ rest)) n n (take n order) x → (s : ℕ) → s ≡ room .scratch → scratch ≡ zeros s
             → a ≡ bisectionAnswer cov n n (take n order) (room .weights) → r ≡ toldOf a → weights ≡ bisectionWeights cov n n (take n order) (room .weights)
             → ParityWorked said d cov n room r rows order weights correlations distances scratch
         unfolding hrpRows hrpOrder hrpShares hrpDistances
-        worked-done low r a u v w c1 c2 s z zs b rt ws =
-            let done = arrange-passes corr n n _ (arrangeable (length cov) n room corr p e) in
+        worked-done low r a u v w c1 x y c2 s z zs b rt ws =
+            let done = arrange-passes corr n n _ (arrangeable (length cov) n room corr part p e f) in
             let side : r ≡ sideOutcome cov n (take n order) = share-told n (p .some) (p .few) cov (p .cells) (take n order) each (room .weights) (p .for-weights) a r b rt in
             record {
               answer = side ∙ ap (sideOutcome cov n) order-is ∙ sym (then-done _ _ u ∙ risk-said ∙ then-done _ _ (sym v ∙ w));
@@ -129,7 +131,7 @@ module _ (d : Distance) (cov : List Float) where
                 order-is = t .order-is ∙ rw (done, q);
                 weights-are = share-laid n (p .some) (p .few) cov (p .cells) (take n order) each (room .weights) (p .for-weights) weights ws (sym side ∙ g) ∙ ap (λ (x : List ℕ). laid pz Done (room .weights) (weightsIn (bisectionShares cov n x))) order-is;
                 correlations-are = seriated-laid n (p .few) corr (take n order) correlations e each (room .correlations) (p .for-correlations) c1 ∙ rw (order-is, q);
-                distances-are = seriated-laid n (p .few) (take (n * n) mid) (take n order) distances (ap length far ∙ length-distances Hrp d Single corr n) each (room .distances) (p .for-distances) c2 ∙ rw (order-is, far, q);
+                distances-are = seriated-laid n (p .few) (take (n * n) (mid ++ rest)) (take n order) distances (ap length far ∙ length-distances Hrp d Single corr n) each (room .distances) (p .for-distances) (c2 ∙ ap (seriated (take (n * n) (mid ++ rest)) n n (take n order)) y) ∙ rw (order-is, far, q);
                 scratch-is = zs ∙ ap zeros z;
               };
             }

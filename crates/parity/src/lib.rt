@@ -44,13 +44,13 @@ fn work(
     let Outcome::Done = said else {
         return said;
     };
-    let mut corr = [0.0; 4096];
-    let low = lent::told(stats::cov2corr(covariance, n, n, &mut corr));
+    // the correlations wait where the distances are laid at last
+    let low = lent::told(stats::cov2corr(covariance, n, n, distances));
     let Outcome::Done = low else {
         return low;
     };
     let m = n * n;
-    let alike = &corr[..m];
+    let alike = &distances[..m];
     arranging::arrange(
         Measure::Hrp,
         distance,
@@ -60,7 +60,7 @@ fn work(
         n,
         rows,
         order,
-        scratch,
+        &mut scratch[..m],
     );
     let leaves = &order[..n];
     let far = &scratch[..m];
