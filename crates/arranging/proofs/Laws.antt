@@ -2,12 +2,12 @@
 use Prim.Native.Nat.{ℕ, _-_, _*_, _<_, _≤_}
 use mathlib.Core.Path.{_≡_, refl, sym, ap, _∙_}
 use mathlib.Core.Bool.{true, false, not}
-use mathlib.Core.List.{List, [], _∷_}
+use mathlib.Core.List.{List, [], _∷_, _++_}
 use native.Mathlib.Omega.{arith}
 use borrow.Author.Tests.{le-ltb, ltb-false, eq-eqb, ne-eqb, eqb-true, eqb-false, not-false}
 use lib.Dec.{ltb, eqb}
 use lib.ListN.{length, take}
-use lib.Seq.{take-at}
+use lib.Seq.{take-at, take-append-le}
 use lib.Ieee.{Float}
 use Rattle.arithmetic.specs.Constants.{pz}
 use Rattle.refusal.specs.Table.{first, andThen}
@@ -64,8 +64,9 @@ module _ (n : ℕ) (h : n ≤ 64) where
   unfolding betweens distanceOutcome
   betweens-laid d out e room f g = g ∙ ap (λ (o : Outcome). laid pz o room (grid n n (betweenCell d n))) (squares-pass (length d) room e f)
 
-  pub betweens-front : (d out : List Float) → length d ≡ n * n → (room : ℕ) → n * n ≤ room → out ≡ betweens d n n room → take (n * n) out ≡ grid n n (betweenCell d n)
-  betweens-front d out e room f g = laid-front pz Done room (n * n) _ out (betweens-laid d out e room f g) refl (length-grid n n _)
+  -- in the front of a room, of which that part was lent
+  pub betweens-front : (d part rest : List Float) → length d ≡ n * n → (room : ℕ) → room ≡ n * n → length part ≡ room → part ≡ betweens d n n room → take (n * n) (part ++ rest) ≡ grid n n (betweenCell d n)
+  betweens-front d part rest e room f k g = take-append-le (n * n) part rest (omega arith) ∙ laid-front pz Done room (n * n) _ part (betweens-laid d part e room (omega arith) g) refl (length-grid n n _)
 
   pub rows-laid : (l : Linkage) (xs : List Float) (out : List ℕ) → length xs ≡ n * n → (room : ℕ) → 2 * (n - 1) ≤ room → out ≡ childrenRows l xs n n room → out ≡ laid 0 Done room (mergeRows l n xs)
   unfolding childrenRows childrenOutcome childrenTable
@@ -81,9 +82,13 @@ pub tree-plain : (d : Distance) (xs : List Float) (n : ℕ) → d ≡ Correlatio
 unfolding treeDistances
 tree-plain d xs n e = rw e
 
-pub tree-between : (d : Distance) (xs : List Float) (n : ℕ) → d ≡ DistanceOfDistances → grid n n (betweenCell xs n) ≡ treeDistances d xs n
+pub tree-between : (xs : List Float) (n : ℕ) → grid n n (betweenCell xs n) ≡ treeDistances DistanceOfDistances xs n
 unfolding treeDistances
-tree-between d xs n e = rw e
+tree-between xs n = refl
+
+pub rows-between : (d : Distance) (l : Linkage) (n : ℕ) (xs : List Float) (rows : List ℕ) (room : ℕ) → d ≡ DistanceOfDistances
+    → rows ≡ laid 0 Done room (mergeRows l n (treeDistances DistanceOfDistances xs n)) → rows ≡ laid 0 Done room (mergeRows l n (treeDistances d xs n))
+rows-between d l n xs rows room e g = rw e g
 
 -- ---- a call that is accepted
 

@@ -14,9 +14,23 @@ ghost use Rattle.refusal.specs.declared.Outcome.the-variants.{Done};
 ghost use Rattle.lent.specs.Grid.{zeros, noughts};
 ghost use Rattle.lent.specs.Lent.{laid};
 ghost use Rattle.linkage.specs.Merge.{mergeRows};
+ghost use Rattle.linkage.specs.declared.Distance.the-variants.{DistanceOfDistances};
 ghost use Rattle.arranging.specs.Arranging.{treeDistances, arrangeTable, Arranged};
 
-// The tree of n by n distances, at the front of rows.
+// The tree of the distances of n by n distances, at the front of rows. They are worked out in the front of the room: the call clears all that it is lent.
+fn link_between(linkage: Linkage, n: usize, d: &[f64], room: &mut [f64], rows: &mut [usize])
+    requires { ⌜ n ≤ 64 ⌝ }
+    requires { ⌜ length (now d) ≡ n * n ⌝ }
+    requires { ⌜ n * n ≤ length (now room) ⌝ }
+    requires { ⌜ 2 * (n - 1) ≤ length (now rows) ⌝ }
+    ensures { λ _. ⌜ now (rows .exit) ≡ laid 0 Done (length (now (rows .entry))) (mergeRows linkage n (treeDistances DistanceOfDistances (now (d .entry)) n)) ⌝ }
+{
+    let m = n * n;
+    distances::distance_of_distances(d, n, n, &mut room[..m]);
+    linkage::linkage_children(&room[..m], n, n, linkage, rows);
+}
+
+// The tree of n by n distances, at the front of rows. Few assets have a room of their own: the zeros of a large one would take longer than they do.
 fn link(distance: Distance, linkage: Linkage, n: usize, d: &[f64], rows: &mut [usize])
     requires { ⌜ n ≤ 64 ⌝ }
     requires { ⌜ length (now d) ≡ n * n ⌝ }
@@ -28,10 +42,13 @@ fn link(distance: Distance, linkage: Linkage, n: usize, d: &[f64], rows: &mut [u
             linkage::linkage_children(d, n, n, linkage, rows);
         }
         Distance::DistanceOfDistances => {
-            let mut room = [0.0; 4096];
-            distances::distance_of_distances(d, n, n, &mut room);
-            let m = n * n;
-            linkage::linkage_children(&room[..m], n, n, linkage, rows);
+            if n <= 16 {
+                let mut small = [0.0; 256];
+                link_between(linkage, n, d, &mut small, rows);
+            } else {
+                let mut room = [0.0; 4096];
+                link_between(linkage, n, d, &mut room, rows);
+            }
         }
     }
 }

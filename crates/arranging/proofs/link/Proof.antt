@@ -1,16 +1,15 @@
 -- `arranging::link` meets its contract. Assumes nothing.
-use mathlib.Core.Path.{sym, ap, _∙_}
+use mathlib.Core.Path.{ap, _∙_}
 use mathlib.Core.List.{List}
-use native.Mathlib.Omega.{arith}
-use borrow.Author.Needs.{needs}
+use native.Mathlib.Nat.{mul-le-mul}
 use lib.ListN.{length}
-use lib.Seq.{length-take-le}
 use lib.Ieee.{Float}
-use Rattle.lent.proofs.Laws.{length-grid, square-in}
 use Rattle.refusal.specs.declared.Outcome.the-variants.{Done}
 use Rattle.lent.specs.Lent.{laid}
+use Rattle.lent.proofs.Laws.{square-in}
 use Rattle.linkage.specs.Merge.{mergeRows}
-use Rattle.arranging.proofs.Laws.{betweens-front, rows-laid, tree-plain, tree-between}
+use Rattle.arranging.proofs.Laws.{rows-laid, tree-plain, rows-between}
+use borrow.Author.Needs.{needs}
 use Rattle.arranging.proofs.link.Statement.{statement}
 use Rattle.arranging.proofs.link.Tie as tie
 
@@ -23,23 +22,22 @@ linkage-children-requires c κs = search needs
 enum-told-2 : tie.Need-enum-told-2
 enum-told-2 c = search needs
 
-slice-aggregate-distance-of-distances : tie.Need-slice-aggregate-distance-of-distances
-slice-aggregate-distance-of-distances c = search needs
+slice-aggregate-link-between : tie.Need-slice-aggregate-link-between
+slice-aggregate-link-between c = search needs
 
-distance-of-distances-requires : tie.Need-distance-of-distances-requires
-distance-of-distances-requires c κs = search needs
+link-between-requires : tie.Need-link-between-requires
+link-between-requires c κs =
+    let p = c .before .before .before .before .before .before .before .pre in
+    let few = c .before .before .if1 .taken in
+    (p .0, (p .1 .0, (mul-le-mul few few, p .1 .1)))
 
-mul-m : tie.Need-mul-m
-mul-m c = search needs
+slice-aggregate-link-between-2 : tie.Need-slice-aggregate-link-between-2
+slice-aggregate-link-between-2 c = search needs
 
-array-share-prefix-room : tie.Need-array-share-prefix-room
-array-share-prefix-room c = omega (arith, square-in _ (c .before .before .before .before .before .before .before .pre .0), c .before .distance-of-distances .kept .1 .1 .1 .0)
-
-slice-aggregate-linkage-children : tie.Need-slice-aggregate-linkage-children
-slice-aggregate-linkage-children c = sym (length-take-le _ _ (array-share-prefix-room (c .before)))
-
-linkage-children-requires-2 : tie.Need-linkage-children-requires-2
-linkage-children-requires-2 c κs = search needs
+link-between-requires-2 : tie.Need-link-between-requires-2
+link-between-requires-2 c κs =
+    let p = c .before .before .before .before .before .before .before .pre in
+    (p .0, (p .1 .0, (square-in _ (p .0), p .1 .1)))
 
 same-length : tie.Need-same-length
 same-length c = c .before .before .linkage-children .kept .1 .1 .1 .1 .0
@@ -52,15 +50,20 @@ returns c =
     rows-laid (a .n) (p .0) (a .linkage) (a .d .now) _ (p .1 .0) _ (p .1 .1) (c .before .before .linkage-children .ensures .1) ∙ ap (λ (x : List Float). laid 0 Done (length (a .rows .now)) (mergeRows (a .linkage) (a .n) x)) (tree-plain (a .distance) (a .d .now) (a .n) (c .before .before .before .before .enum-told .given .1))
 
 same-length-2 : tie.Need-same-length-2
-same-length-2 c = c .before .before .linkage-children2 .kept .1 .1 .1 .1 .0
+same-length-2 c = c .before .before .before .link-between .kept .1 .1 .1 .1 .0
 
 returns-2 : tie.Need-returns-2
 returns-2 c =
-    let s = c .before .before .before .before .before .before .before .before .before .before .before .before in
-    let a = s .args in
-    let p = s .pre in
-    let f = betweens-front (a .n) (p .0) (a .d .now) _ (p .1 .0) _ (square-in _ (p .0)) (c .before .before .before .before .before .before .distance-of-distances .ensures .1) in
-    rows-laid (a .n) (p .0) (a .linkage) _ _ (ap length f ∙ length-grid (a .n) (a .n) _) _ (p .1 .1) (c .before .before .linkage-children2 .ensures .1) ∙ ap (λ (x : List Float). laid 0 Done (length (a .rows .now)) (mergeRows (a .linkage) (a .n) x)) (f ∙ tree-between (a .distance) (a .d .now) (a .n) (c .before .before .before .before .before .before .before .before .enum-told2 .given .1))
+    let a = c .before .before .before .before .before .before .before .before .before .before .before .args in
+    rows-between (a .distance) (a .linkage) (a .n) (a .d .now) _ _ (c .before .before .before .before .before .before .before .enum-told2 .given .1) (c .before .before .before .link-between .ensures)
+
+same-length-3 : tie.Need-same-length-3
+same-length-3 c = c .before .before .before .link-between2 .kept .1 .1 .1 .1 .0
+
+returns-3 : tie.Need-returns-3
+returns-3 c =
+    let a = c .before .before .before .before .before .before .before .before .before .before .before .args in
+    rows-between (a .distance) (a .linkage) (a .n) (a .d .now) _ _ (c .before .before .before .before .before .before .before .enum-told2 .given .1) (c .before .before .before .link-between2 .ensures)
 
 pub link-spec : {M : Type 1} → statement M
 link-spec =
@@ -69,13 +72,13 @@ link-spec =
     enum-told
     linkage-children-requires
     enum-told-2
-    slice-aggregate-distance-of-distances
-    distance-of-distances-requires
-    mul-m
-    array-share-prefix-room
-    slice-aggregate-linkage-children
-    linkage-children-requires-2
+    slice-aggregate-link-between
+    link-between-requires
+    slice-aggregate-link-between-2
+    link-between-requires-2
     same-length
     returns
     same-length-2
-    returns-2)
+    returns-2
+    same-length-3
+    returns-3)
