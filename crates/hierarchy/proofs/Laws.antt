@@ -3,14 +3,13 @@ use Prim.Native.Nat.{ℕ, _-_, _*_, _<_, _≤_}
 use mathlib.Core.Path.{_≡_, refl, sym, ap, _∙_}
 use mathlib.Core.Bool.{Bool, true, false}
 use mathlib.Core.List.{List, _++_}
+use native.Mathlib.Nat.{mul-le-mul}
 use native.Mathlib.Omega.{arith}
 use borrow.Author.Tests.{ltb-false, ne-eqb, eqb-false, eqb-true, not-false}
 use lib.Dec.{eqb}
 use lib.ListN.{length, take, getD, replicate}
-use lib.Seq.{length-take-le}
+use lib.Seq.{take-append-le}
 use lib.Ieee.{Float}
-use mir.Syntax.{w64}
-use mir.Val.{Fits as Word}
 use Rattle.arithmetic.specs.Constants.{pz}
 use Rattle.refusal.specs.Table.{first, orElse, andThen}
 use Rattle.refusal.specs.declared.Refusal.{Refusal}
@@ -33,7 +32,7 @@ use Rattle.arranging.proofs.Laws.{laid-front, squares-pass, Arrangeable, rows-f
 use Rattle.sharing.specs.Down.{isSharpe, isTailRisk, metricTailLines}
 use Rattle.sharing.proofs.Judged.{Feeding, neither, expecting, feeding}
 use Rattle.hierarchy.specs.Hierarchy.{HierarchyCall, Room, roomLines, hierarchySizeLines, hierarchyShapeLines, expectedLines, ruleLines, hierarchyJudgeTable, hcaaRows, hcaaOrder, squareLines}
-use Rattle.hierarchy.specs.Inner.{Sown, Planted}
+use Rattle.hierarchy.specs.Inner.{Sown, Ground, Planted}
 
 -- ---- the judge
 
@@ -105,61 +104,67 @@ lays-refused said k room from blank h b = b ∙ laid-refused 0 said k room from 
 
 -- ---- the tree
 
--- in an array of 4,096
-pub area-in : (said : Outcome) (len n room : ℕ) → Sown said len n → said ≡ Done → room ≡ 4096 → n * n ≤ room
-area-in said len n room s done full = omega (arith, square-in n (s .few done))
+-- in arrays of 256 doubles for at most 16 assets, else of 4,096
+pub ground-few : (said : Outcome) (len n tree leaves : ℕ) → Sown said len n → said ≡ Done → n ≤ 16 → tree ≡ 126 → leaves ≡ 64 → Ground len n 256 256 tree leaves
+ground-few said len n tree leaves s done h a b =
+    record { some = s .some done; few = s .few done; cells = s .cells done; for-corr = mul-le-mul h h; for-far = mul-le-mul h h; rows = a; order = b }
 
-pub area-word : (said : Outcome) (len n : ℕ) → Sown said len n → said ≡ Done → Word w64 (n * n)
-area-word said len n s done = omega (arith, square-in n (s .few done))
+pub ground : (said : Outcome) (len n tree leaves : ℕ) → Sown said len n → said ≡ Done → tree ≡ 126 → leaves ≡ 64 → Ground len n 4096 4096 tree leaves
+ground said len n tree leaves s done a b =
+    record { some = s .some done; few = s .few done; cells = s .cells done; for-corr = square-in n (s .few done); for-far = square-in n (s .few done); rows = a; order = b }
 
-module _ (said : Outcome) (d : Distance) (l : Linkage) (cov : List Float) (n : ℕ) where
+module _ (d : Distance) (l : Linkage) (cov : List Float) (n : ℕ) where
   -- nothing is said of what is refused
-  planted-as : (r : Outcome) (k : Refusal) (tree leaves : List ℕ) → r ≡ Refused k → r ≡ andThen said (orElse (anyLow cov n) NoData Done) → Planted said d l cov n r tree leaves
-  planted-as r k tree leaves h e = record { answer = e; rows-are = λ g. absurd (done-refused k (sym g ∙ h)); order-is = λ g. absurd (done-refused k (sym g ∙ h)) }
+  planted-as : (said r : Outcome) (k : Refusal) (tree leaves : List ℕ) → r ≡ Refused k → r ≡ andThen said (orElse (anyLow cov n) NoData Done) → Planted said d l cov n r tree leaves
+  planted-as said r k tree leaves h e = record { answer = e; rows-are = λ g. absurd (done-refused k (sym g ∙ h)); order-is = λ g. absurd (done-refused k (sym g ∙ h)) }
 
-  pub planted-refused : (k : Refusal) (tree leaves : List ℕ) → said ≡ Refused k → Planted said d l cov n said tree leaves
-  planted-refused k tree leaves h = planted-as said k tree leaves h (h ∙ sym (then-refused said _ k h))
+  pub planted-refused : (said : Outcome) (k : Refusal) (tree leaves : List ℕ) → said ≡ Refused k → Planted said d l cov n said tree leaves
+  planted-refused said k tree leaves h = planted-as said said k tree leaves h (h ∙ sym (then-refused said _ k h))
 
-  module _ (room : ℕ) (a : Answer) (low : Outcome) (s : Sown said (length cov) n) (done : said ≡ Done) (full : room ≡ 4096) (g : a ≡ correlationAnswer cov n n room) (h : low ≡ toldOf a) where
-    told-low : low ≡ correlationOutcome cov n n room
+  pub planted-done : (said r : Outcome) (tree leaves : List ℕ) → said ≡ Done → Planted Done d l cov n r tree leaves → Planted said d l cov n r tree leaves
+  planted-done said r tree leaves done p = rw done p
+
+  -- part is the front of a room, which was lent to the correlations
+  module _ (part : ℕ) (a : Answer) (low : Outcome) (corr far tree leaves : ℕ) (s : Ground (length cov) n corr far tree leaves) (exact : part ≡ n * n) (g : a ≡ correlationAnswer cov n n part) (h : low ≡ toldOf a) where
+    told-low : low ≡ correlationOutcome cov n n part
     unfolding correlationAnswer
-    told-low = h ∙ ap toldOf g ∙ told-as (correlationOutcome cov n n room) n n
+    told-low = h ∙ ap toldOf g ∙ told-as (correlationOutcome cov n n part) n n
 
     -- the correlations are refused for a variance alone
-    low-said : low ≡ andThen said (orElse (anyLow cov n) NoData Done)
+    low-said : low ≡ andThen Done (orElse (anyLow cov n) NoData Done)
     unfolding orElse
     low-said =
-        let some : 0 < n = s .some done in
+        let some : 0 < n = s .some in
         let z : eqb n 0 ≡ false = ne-eqb n 0 (λ q. omega arith) in
-        let q : first (squares (length cov) n n room) ≡ Done = squares-pass n (s .few done) (length cov) room (s .cells done) (area-in said (length cov) n room s done full) in
+        let q : first (squares (length cov) n n part) ≡ Done = squares-pass n (s .few) (length cov) part (s .cells) (omega arith) in
         told-low
-        ∙ correlation-squared cov n n room q
+        ∙ correlation-squared cov n n part q
         ∙ ap (λ (t : Bool). orElse t DimensionMismatch (orElse (anyLow cov n) NoData Done)) z
-        ∙ sym (then-done said _ done)
+        ∙ sym (then-done Done _ refl)
 
-    pub planted-low : (k : Refusal) (tree leaves : List ℕ) → low ≡ Refused k → Planted said d l cov n low tree leaves
-    planted-low k tree leaves f = planted-as low k tree leaves f low-said
+    pub planted-low : (k : Refusal) (tree leaves : List ℕ) → low ≡ Refused k → Planted Done d l cov n low tree leaves
+    planted-low k tree leaves f = planted-as Done low k tree leaves f low-said
 
-    module _ (corr : List Float) (c : corr ≡ correlations cov n n room) (fine : low ≡ Done) where
-      corr-front : take (n * n) corr ≡ correlationsOf cov n
+    module _ (made rest : List Float) (kept : length made ≡ part) (c : made ≡ correlations cov n n part) (fine : low ≡ Done) where
+      corr-front : take (n * n) (made ++ rest) ≡ correlationsOf cov n
       unfolding correlations correlationsOf
-      corr-front = laid-front pz _ room (n * n) _ corr c (sym told-low ∙ fine) (length-grid n n (correlationCell cov n))
+      corr-front = take-append-le (n * n) made rest (omega arith) ∙ laid-front pz _ part (n * n) _ made c (sym told-low ∙ fine) (length-grid n n (correlationCell cov n))
 
-      pub planted : (a b c : ℕ) (r : Outcome) (tree leaves : List ℕ) (far : List Float) → length corr ≡ 4096 → a ≡ 126 → b ≡ 64 → c ≡ 4096
-          → Arranged Hcaa d l (take (n * n) corr) n n (record { rows = a; order = b; distances = c }) r tree leaves far → Planted said d l cov n low tree leaves
-      unfolding hcaaRows hcaaOrder
-      planted a b c r tree leaves far whole x y z f =
-          let some : 0 < n = s .some done in
-          let few : n ≤ 64 = s .few done in
-          let p : Arrangeable (length (take (n * n) corr)) n n (record { rows = a; order = b; distances = c }) = record {
-            some = some;
+      pub planted : (b : ℕ) (r : Outcome) (rows order : List ℕ) (between : List Float) → b ≡ n * n
+          → Arranged Hcaa d l (take (n * n) (made ++ rest)) n n (record { rows = tree; order = leaves; distances = b }) r rows order between → Planted Done d l cov n low rows order
+      unfolding hcaaRows hcaaOrder correlationsOf
+      planted b r rows order between z f =
+          let few : n ≤ 64 = s .few in
+          let x : tree ≡ 126 = s .rows in
+          let y : leaves ≡ 64 = s .order in
+          let p : Arrangeable (length (correlationsOf cov n)) n n (record { rows = tree; order = leaves; distances = b }) = record {
+            some = s .some;
             wide = few;
             square = refl;
-            cells = length-take-le (n * n) corr (area-in said (length cov) n (length corr) s done whole);
+            cells = length-grid n n (correlationCell cov n);
             for-rows = omega arith;
             for-order = omega arith;
-            for-distances = omega (arith, square-in n few);
+            for-distances = omega arith;
           } in
-          let f′ : Arranged Hcaa d l (correlationsOf cov n) n n (record { rows = a; order = b; distances = c }) r tree leaves far = rw corr-front at f in
-          let p′ : Arrangeable (length (correlationsOf cov n)) n n (record { rows = a; order = b; distances = c }) = rw corr-front at p in
-          record { answer = low-said; rows-are = λ _. rows-front Hcaa d l _ n _ r tree leaves far p′ f′; order-is = λ _. order-front Hcaa d l _ n _ r tree leaves far p′ f′ }
+          let f′ : Arranged Hcaa d l (correlationsOf cov n) n n (record { rows = tree; order = leaves; distances = b }) r rows order between = rw corr-front at f in
+          record { answer = low-said; rows-are = λ _. rows-front Hcaa d l _ n _ r rows order between p f′; order-is = λ _. order-front Hcaa d l _ n _ r rows order between p f′ }

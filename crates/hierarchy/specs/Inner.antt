@@ -19,6 +19,16 @@ pub record Sown (said : Outcome) (len n : ℕ) : Type 0 where
   pub few : said ≡ Done → n ≤ 64
   pub cells : said ≡ Done → len ≡ n * n
 
+-- the same where nothing was, with rooms for two matrices and the whole arrays of the tree and its leaf order
+pub record Ground (len n corr far tree leaves : ℕ) : Type 0 where
+  pub some : 0 < n
+  pub few : n ≤ 64
+  pub cells : len ≡ n * n
+  pub for-corr : n * n ≤ corr
+  pub for-far : n * n ≤ far
+  pub rows : tree ≡ 126
+  pub order : leaves ≡ 64
+
 -- what was said before, then the variances; where nothing is refused, the tree and its leaf order at the fronts of two arrays
 pub record Planted (said : Outcome) (d : Distance) (l : Linkage) (cov : List Float) (n : ℕ) (r : Outcome) (tree leaves : List ℕ) : Type 0 where
   pub answer : r ≡ andThen said (orElse (anyLow cov n) NoData Done)

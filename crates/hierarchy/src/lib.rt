@@ -8,12 +8,46 @@ use sharing::Metric;
 ghost use mathlib.Core.Path.{_≡_};
 ghost use Prim.Native.Nat.{_≤_};
 ghost use lib.ListN.{length};
+ghost use Rattle.refusal.specs.declared.Outcome.the-variants.{Done};
 ghost use Rattle.lent.specs.Grid.{over};
 ghost use Rattle.lent.specs.Lent.{laid};
 ghost use Rattle.hierarchy.specs.Hierarchy.{HierarchyAnswered};
-ghost use Rattle.hierarchy.specs.Inner.{Sown, Planted};
+ghost use Rattle.hierarchy.specs.Inner.{Sown, Ground, Planted};
 
-// The tree of a covariance and its leaf order, at the fronts of two arrays, unless something is refused before; refuses a variance.
+// The tree of a covariance and its leaf order, at the fronts of two arrays; refuses a variance. Both matrices stand in the fronts of two rooms: the calls clear all that they are lent.
+fn plant_in(
+    covariance: &[f64],
+    n: usize,
+    distance: Distance,
+    linkage: Linkage,
+    corr: &mut [f64],
+    far: &mut [f64],
+    tree: &mut [usize],
+    leaves: &mut [usize],
+) -> Outcome
+    requires { ⌜ Ground (length (now covariance)) n (length (now corr)) (length (now far)) (length (now tree)) (length (now leaves)) ⌝ }
+    ensures { λ r. ⌜ Planted Done distance linkage (now (covariance .entry)) n r (now (tree .exit)) (now (leaves .exit)) ⌝ }
+{
+    let m = n * n;
+    let low = lent::told(stats::cov2corr(covariance, n, n, &mut corr[..m]));
+    let Outcome::Done = low else {
+        return low;
+    };
+    arranging::arrange(
+        Measure::Hcaa,
+        distance,
+        linkage,
+        &corr[..m],
+        n,
+        n,
+        tree,
+        leaves,
+        &mut far[..m],
+    );
+    low
+}
+
+// The same, unless something is refused before. Few assets have rooms of their own: the zeros of large ones would take longer than they do.
 fn plant(
     said: Outcome,
     covariance: &[f64],
@@ -31,25 +65,32 @@ fn plant(
     let Outcome::Done = said else {
         return said;
     };
+    if n <= 16 {
+        let mut corr = [0.0; 256];
+        let mut far = [0.0; 256];
+        return plant_in(
+            covariance,
+            n,
+            distance,
+            linkage,
+            &mut corr,
+            &mut far,
+            tree,
+            leaves,
+        );
+    }
     let mut corr = [0.0; 4096];
-    let low = lent::told(stats::cov2corr(covariance, n, n, &mut corr));
-    let Outcome::Done = low else {
-        return low;
-    };
-    let m = n * n;
-    let mut room = [0.0; 4096];
-    arranging::arrange(
-        Measure::Hcaa,
+    let mut far = [0.0; 4096];
+    plant_in(
+        covariance,
+        n,
         distance,
         linkage,
-        &corr[..m],
-        n,
-        n,
+        &mut corr,
+        &mut far,
         tree,
         leaves,
-        &mut room,
-    );
-    low
+    )
 }
 
 // Every entry, over the front of `to`.
