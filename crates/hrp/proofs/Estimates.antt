@@ -1,10 +1,10 @@
 -- The covariance of a call that gives none: what the steps that make it say of the definitions. Assumes nothing.
 use Prim.Native.Nat.{ℕ, _*_, _-_, _≤_}
 use mathlib.Core.Path.{_≡_, refl, sym, ap, _∙_}
-use mathlib.Core.Bool.{Bool, true, false, _&&_}
+use mathlib.Core.Bool.{Bool, true, false, not, _&&_, false≢true}
 use mathlib.Core.List.{List}
 use native.Mathlib.Omega.{arith}
-use borrow.Author.Tests.{le-ltb, eq-eqb}
+use borrow.Author.Tests.{le-ltb, eq-eqb, not-true, not-false}
 use lib.Dec.{ltb}
 use lib.ListN.{length, take}
 use lib.Ieee.{Float}
@@ -28,7 +28,7 @@ use Rattle.stats.proofs.Laws.{covariance-sized}
 use Rattle.inputs.specs.Inputs.{absent, rowsOfShape, noReturns, madeReturns, madeOutcome, madeAnswer, madeLaid}
 use Rattle.inputs.proofs.Laws.{sizes-pass, laid-front, made-judged, made-done, made-answer, made-refusal, made-front}
 use Rattle.hrp.specs.Hrp.{estimated, shrunkIf}
-use Rattle.hrp.specs.Inner.{HrpEstimated, HrpSampled, HrpSource, gatheredRows, gatheredCells, gatherSizes, gatheredCovariance, gatherOutcome, HrpFitting, HrpGathered, usedBy}
+use Rattle.hrp.specs.Inner.{HrpEstimated, HrpSampled, HrpSource, gatheredRows, gatheredCells, gatherSizes, gatheredCovariance, gatherOutcome, HrpFitting, HrpGathered, HrpGiven}
 
 -- a line that refused
 hit : (t : Bool) (k : Refusal) (o : Outcome) → orElse t NoData Done ≡ Refused k → Refused k ≡ orElse t NoData o
@@ -171,10 +171,10 @@ module _ (said : Outcome) (q : HrpSource) where
         unfolding gatherSizes
         prices-sized e = rw e at (f .sized d t)
 
-pub used-made : (t : Shape) (given made : List Float) → t ≡ Absent → made ≡ usedBy t given made
-unfolding usedBy
-used-made t given made e = rw e
+-- ---- a given covariance
 
-pub used-given : (t : Shape) (rows w : ℕ) (given made : List Float) → t ≡ Of rows w → given ≡ usedBy t given made
-unfolding usedBy
-used-given t rows w given made e = rw e
+pub given-refused : (said : Outcome) (k : Refusal) (t : Shape) → said ≡ Refused k → HrpGiven said t false
+given-refused said k t h = record { done = λ e. absurd (false≢true e); given = λ e. absurd (false≢true e); none = λ e d. absurd (done-refused k (sym d ∙ h)) }
+
+pub given-as : (said : Outcome) (t : Shape) (r : Bool) → said ≡ Done → r ≡ absent t → HrpGiven said t (not r)
+given-as said t r d e = record { done = λ f. d; given = λ f. sym e ∙ not-true r f; none = λ f g. sym e ∙ not-false r f }

@@ -1,7 +1,7 @@
 -- What the judge of a call and the covariance made for it say of its table, and how a call ends. Assumes nothing.
 use Prim.Native.Nat.{ℕ, _*_, _≤_}
 use mathlib.Core.Path.{_≡_, refl, sym, ap, _∙_}
-use mathlib.Core.Bool.{Bool, true, false, not, _&&_, _||_}
+use mathlib.Core.Bool.{Bool, true, false, not, _&&_, _||_, true≢false, false≢true}
 use mathlib.Core.List.{List, [], _∷_, _++_}
 use native.Mathlib.Omega.{arith}
 use borrow.Author.Tests.{eqb-true, eq-eqb, not-false}
@@ -27,8 +27,8 @@ use Rattle.rooms.specs.Rooms.{ParityRoom, parityRoomLines, parityJudgeTable, sh
 use Rattle.parity.specs.Parity.{hrpRiskLines, parityOutcome, ParityLaid, ParityAnswered}
 use Rattle.parity.proofs.Answers.{parity-said, laid-cleared}
 use Rattle.hrp.specs.Hrp.{HrpJob, pricesAlone, hrpReturnRows, hrpReturnCells, estimated, shrunkIf, hrpCovarianceBy, hrpCovariance, hrpShapeLines, numberLines, hrpTable, hrpOutcome, HrpAllocated}
-use Rattle.hrp.specs.Inner.{HrpSource, gatheredRows, gatheredCells, gatherSizes, gatheredCovariance, gatherOutcome, HrpFitting, HrpGathered, usedBy}
-use Rattle.hrp.proofs.Estimates.{and-no}
+use Rattle.hrp.specs.Inner.{HrpSource, gatheredRows, gatheredCells, gatherSizes, gatheredCovariance, gatherOutcome, HrpFitting, HrpGathered, HrpGiven}
+use Rattle.hrp.proofs.Estimates.{and-no, gathered-given}
 
 -- ---- the given matrices
 
@@ -157,13 +157,21 @@ module _ (j : HrpJob) (s : ℕ) (e : s ≡ stepOf (j .resample-by)) where
   cells-same Absent = rw e
   cells-same (Of k w) = refl
 
-  pub used-same : (made : List Float) → (absent (j .covariance-shape) ≡ true → made ≡ gatheredCovariance q) → usedBy (j .covariance-shape) (j .covariance) made ≡ hrpCovariance j
-  unfolding hrpCovariance usedBy hrpCovarianceBy gatheredCovariance absent
-  used-same made f = go (j .covariance-shape) f
+  given-same : absent (j .covariance-shape) ≡ false → j .covariance ≡ hrpCovariance j
+  unfolding hrpCovariance hrpCovarianceBy absent
+  given-same f = go (j .covariance-shape) f
     where
-      go : (t : Shape) → (absent t ≡ true → made ≡ gatheredCovariance q) → usedBy t (j .covariance) made ≡ hrpCovarianceBy j t
+      go : (t : Shape) → absent t ≡ false → j .covariance ≡ hrpCovarianceBy j t
       go (Of k w) f = refl
-      go Absent f = f refl ∙ rw (cells-same (j .returns-shape), rows-same (j .returns-shape))
+      go Absent f = absurd (true≢false f)
+
+  made-same : absent (j .covariance-shape) ≡ true → gatheredCovariance q ≡ hrpCovariance j
+  unfolding hrpCovariance hrpCovarianceBy gatheredCovariance absent
+  made-same f = go (j .covariance-shape) f
+    where
+      go : (t : Shape) → absent t ≡ true → gatheredCovariance q ≡ hrpCovarianceBy j t
+      go (Of k w) f = absurd (false≢true f)
+      go Absent f = rw (cells-same (j .returns-shape), rows-same (j .returns-shape))
 
   last : List Line
   last = (otherSize (j .covariance-shape) (j .assets), DimensionMismatch) ∷ []
@@ -245,13 +253,25 @@ module _ (j : HrpJob) (s : ℕ) (e : s ≡ stepOf (j .resample-by)) where
             let o : hrpOutcome j room ≡ Refused k = outcome-is ∙ stops said (gatherOutcome q) _ k (sym (g .answer) ∙ d) in
             record { answer = d ∙ sym o; buffers = cleared _ k (j .distance) (hrpCovariance j) (j .assets) room rows order weights correlations distances scratch o z }
 
-        pub ends-done : (r₁ : Outcome) (used : List Float) → r ≡ Done → used ≡ usedBy (j .covariance-shape) (j .covariance) (take (j .assets * j .assets) made)
+        ends : (r₁ : Outcome) (used : List Float) → r ≡ Done → used ≡ hrpCovariance j
             → ParityAnswered (j .distance) used (j .assets) (j .assets) room r₁ rows order weights correlations distances scratch → HrpAllocated j room r₁ rows order weights correlations distances scratch
-        ends-done r₁ used d u z =
+        ends r₁ used d v z =
             let a = accepted (both-done said (gatherOutcome q) (sym (g .answer) ∙ d) .0) in
-            let v : used ≡ hrpCovariance j = u ∙ used-same _ (λ t. g .front d t) in
             let w : ParityAnswered (j .distance) (hrpCovariance j) (j .assets) (j .assets) room r₁ rows order weights correlations distances scratch = rw v at z in
             let l : length (hrpCovariance j) ≡ j .assets * j .assets = length-used j (λ t. given-cells (j .assets) (j .covariance-shape) (length (j .covariance)) (a .matrices .covariance) t (a .square)) in
             let o : hrpOutcome j room ≡ parityOutcome (j .distance) (hrpCovariance j) (j .assets) (j .assets) room =
             outcome-is ∙ goes-on said (gatherOutcome q) _ (sym (g .answer) ∙ d) ∙ sym (held (j .distance) (hrpCovariance j) (j .assets) room (a .matrices .few) (a .some) (a .roomy) l) in
             record { answer = w .answer ∙ sym o; buffers = rw o (w .buffers) }
+
+        pub ends-made : (b : Bool) → HrpGiven said (j .covariance-shape) b → b ≡ false → (r₁ : Outcome) → r ≡ Done
+            → ParityAnswered (j .distance) (take (j .assets * j .assets) made) (j .assets) (j .assets) room r₁ rows order weights correlations distances scratch → HrpAllocated j room r₁ rows order weights correlations distances scratch
+        ends-made b u f r₁ d z =
+            let t = u .none f (both-done said (gatherOutcome q) (sym (g .answer) ∙ d) .0) in
+            ends r₁ _ d (g .front d t ∙ made-same t) z
+
+    pub ends-given : (b : Bool) → HrpGiven said (j .covariance-shape) b → b ≡ true → (r₁ : Outcome) (rows order : List ℕ) (weights correlations distances scratch : List Float)
+        → ParityAnswered (j .distance) (j .covariance) (j .assets) (j .assets) room r₁ rows order weights correlations distances scratch → HrpAllocated j room r₁ rows order weights correlations distances scratch
+    ends-given b u f r₁ rows order weights correlations distances scratch z =
+        let d = u .done f in
+        let t = u .given f in
+        ends said [] (gathered-given said q d [] t) rows order weights correlations distances scratch r₁ (j .covariance) d (given-same t) z

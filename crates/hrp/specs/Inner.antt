@@ -1,7 +1,7 @@
 -- What the private functions ask of one another and promise: may be skipped. Definitions only.
 use Prim.Native.Nat.{ℕ, _*_, _-_}
 use mathlib.Core.Path.{_≡_}
-use mathlib.Core.Bool.{Bool, true, _&&_}
+use mathlib.Core.Bool.{Bool, true, false, _&&_}
 use mathlib.Core.List.{List}
 use lib.Dec.{ltb}
 use lib.ListN.{length, take}
@@ -73,10 +73,11 @@ pub record HrpGathered (said : Outcome) (q : HrpSource) (r : Outcome) (out : Lis
   pub answer : r ≡ andThen said (gatherOutcome q)
   pub front : r ≡ Done → absent (q .covariance-shape) ≡ true → take (q .assets * q .assets) out ≡ gatheredCovariance q
 
--- the given covariance, else the made one
-unfoldable pub usedBy : Shape → List Float → List Float → List Float
-usedBy Absent given made = made
-usedBy (Of rows w) given made = given
+-- whether a covariance is given to a call that is not refused so far
+pub record HrpGiven (said : Outcome) (t : Shape) (r : Bool) : Type 0 where
+  pub done : r ≡ true → said ≡ Done
+  pub given : r ≡ true → absent t ≡ false
+  pub none : r ≡ false → said ≡ Done → absent t ≡ true
 
 -- a job by its parts
 abbrev pub hrpJob : ℕ → List Float → Shape → List Float → Shape → List Float → Shape → List ℕ → Bool → Distance → HrpJob

@@ -10,7 +10,7 @@ ghost use Rattle.refusal.specs.Table.{first};
 ghost use Rattle.refusal.specs.declared.Outcome.the-variants.{Done};
 ghost use Rattle.lent.specs.Lent.{sizes};
 ghost use Rattle.hrp.specs.Hrp.{HrpAllocated};
-ghost use Rattle.hrp.specs.Inner.{HrpEstimated, HrpSampled, HrpFitting, HrpGathered, usedBy};
+ghost use Rattle.hrp.specs.Inner.{HrpEstimated, HrpSampled, HrpFitting, HrpGathered, HrpGiven};
 
 // The covariance of returns, shrunk where that is asked, at the front of out.
 fn estimate(returns: &[f64], rows: usize, n: usize, use_shrinkage: bool, out: &mut [f64]) -> Outcome
@@ -107,17 +107,14 @@ fn gather(
     }
 }
 
-// The covariance that is given, else the one made.
-fn used<'a>(shape: Shape, given: &'a [f64], made: &'a [f64]) -> &'a [f64]
-    ensures { λ r. ⌜ now r ≡ usedBy shape (now (given .entry)) (now (made .entry)) ⌝ }
+// A covariance is given, and nothing was refused.
+fn is_given(said: Outcome, covariance: Shape) -> bool
+    ensures { λ r. ⌜ HrpGiven said covariance r ⌝ }
 {
-    match shape {
-        Shape::Absent => made,
-        Shape::Of {
-            rows: _,
-            columns: _,
-        } => given,
-    }
+    let Outcome::Done = said else {
+        return false;
+    };
+    !inputs::is_absent(covariance)
 }
 
 // The weights of the assets, with their tree, its leaf order and both matrices in that order: of the covariance that is given, else of one made from returns, else from prices.
@@ -178,6 +175,21 @@ pub fn allocate(
         seriated_distances.len(),
         scratch.len(),
     );
+    // used where it lies, before there is an array to make one in: its zeros would take as long as a step on few assets
+    if is_given(said, covariance_shape) {
+        return parity::allocate_covariance(
+            covariance,
+            assets,
+            assets,
+            distance,
+            rows,
+            order,
+            weights,
+            seriated_correlations,
+            seriated_distances,
+            scratch,
+        );
+    }
     let mut made = [0.0; 4096];
     let said = gather(
         said,
@@ -203,9 +215,8 @@ pub fn allocate(
         return said;
     };
     let m = assets * assets;
-    let held = used(covariance_shape, covariance, &made[..m]);
     parity::allocate_covariance(
-        held,
+        &made[..m],
         assets,
         assets,
         distance,
