@@ -1,21 +1,25 @@
 // The square root of a double, rounded to the nearest double, by integer arithmetic.
+use std::num::wrapping_add_u64;
+use std::num::wrapping_sub_u64;
 ghost use mathlib.Core.Path.{_≡_};
 ghost use Prim.Native.Nat.{ℕ, _+_, _*_, _^_, _≤_, _<_};
+ghost use mathlib.Core.Bool.{not};
 ghost use lib.Dec.{T};
+ghost use lib.Ieee.{isNan};
 ghost use lib.Ieee.Positive.{positive};
 ghost use Rattle.arithmetic.specs.Inner.{worth, Positive, Radicand, Near};
 ghost use Rattle.arithmetic.specs.Root.{root};
 
-// q * (q + 1) / 2^52, which has up to 106 bits before the division: q is cut into 26 and 27 bits.
+// q * (q + 1) / 2^52, which has up to 106 bits before the division: q is cut into 27 and 26 bits.
 fn over(q: u64) -> u64
     requires { ⌜ q < 2 ^ 53 ⌝ }
     ensures { λ r. ⌜ (r * 2 ^ 52 ≤ q * q + q) × (q * q + q < r * 2 ^ 52 + 2 ^ 52) ⌝ }
 {
-    let a = q / 0x800_0000;
-    let b = q % 0x800_0000;
+    let a = q / 0x400_0000;
+    let b = q % 0x400_0000;
     let mid = a * b;
-    let low = mid % 0x100_0000 * 0x1000_0000 + b * b + q;
-    a * a * 4 + mid / 0x100_0000 + low / 0x10_0000_0000_0000
+    let low = mid % 0x200_0000 * 0x800_0000 + b * b + q;
+    a * a + mid / 0x200_0000 + low / 0x10_0000_0000_0000
 }
 
 // The root of m * 2^52 to the nearest whole number, by halving an interval.
@@ -23,6 +27,10 @@ fn search(m: u64) -> u64
     requires { ⌜ (2 ^ 52 ≤ m) × (m + 2 ≤ 2 ^ 54) ⌝ }
     ensures { λ r. ⌜ Near (m * 2 ^ 52) r ⌝ }
 {
+    // for these m the guess rounds up to 2^53, and its digits are those of 2^52: no other m is known to come here
+    if 0x3f_ffff_ffff_fffa < m {
+        return 0x1f_ffff_ffff_ffff;
+    }
     let mut lo: u64 = 0xf_ffff_ffff_ffff;
     let mut hi: u64 = 0x1f_ffff_ffff_ffff;
     while hi - lo > 1 {
@@ -36,80 +44,70 @@ fn search(m: u64) -> u64
     hi
 }
 
-// The bits of m / 2^52, a double from 1 up and below 4.
-fn scale(m: u64) -> u64
-    requires { ⌜ (2 ^ 52 ≤ m) × (m + 2 ≤ 2 ^ 54) ⌝ }
-    ensures { λ r. ⌜ (1023 * 2 ^ 52 ≤ r) × (r < 1025 * 2 ^ 52) ⌝ }
+// r, or a number where r is none. (1e-200 is below the root of every double that is not subnormal.)
+fn tame(r: f64) -> f64
+    ensures { λ v. ⌜ T (not (isNan v)) ⌝ }
 {
-    if m < 0x20_0000_0000_0000 {
-        m + 0x3fe0_0000_0000_0000
-    } else {
-        m / 2 + 0x3ff0_0000_0000_0000
-    }
+    if 1e-200 < r { r } else { 1e-200 }
 }
 
-// A guess at the root of m * 2^52, of which nothing is proved but its number of digits. It is the root or a number beside it: y is 1 / √x to 4 digits
-// by a trick on its bits, to 10 and to 20 digits by two steps of Newton's method (whose constants center the error), and s, x * y, is mended by a
-// step of the third order.
-fn guess(m: u64) -> u64
-    requires { ⌜ (2 ^ 52 ≤ m) × (m + 2 ≤ 2 ^ 54) ⌝ }
+// A guess at the first 53 digits of the root of the double with the bits i, of which nothing is proved but their number. x is the next double above, so
+// they are the root's or one more, rarely two more, and never fewer. y0 is about 0.63 / √x, by a trick on the bits; then g, x * y0^2, is about 0.4, and p,
+// a polynomial in g, makes 1 / √x of it to 20 digits, but for the factor 7.8482703. So s is √x to 20 digits, from below, and a step of the third order
+// mends it. Nothing leaves the range of doubles, but for the x of the largest double.
+fn guess(i: u64) -> u64
+    requires { ⌜ (2 ^ 52 ≤ i) × (i < 2047 * 2 ^ 52) ⌝ }
     ensures { λ r. ⌜ (2 ^ 52 ≤ r) × (r < 2 ^ 53) ⌝ }
 {
-    let i = scale(m);
-    let x = f64::from_bits(i);
-    let y0 = f64::from_bits(0x5fe6_eb50_c7b5_37a9 - i / 2);
-    let y1 = 1.501315 * y0 - 0.500438 * x * y0 * (y0 * y0);
-    let y = 1.500000864 * y1 - 0.500000288 * x * y1 * (y1 * y1);
-    let s = x * y;
-    let r = s + y * (x - s * s) * (0.875 - 0.375 * (s * y));
-    if r != r {
-        return 0x10_0000_0000_0000;
-    }
+    let x = f64::from_bits(i + 1);
+    let y0 = f64::from_bits(0x5fdc_0000_0000_0000 - i / 2);
+    let s0 = x * y0;
+    let g = s0 * y0;
+    let p = (1.67334091 - g) * (g * g + 1.1104979) - 1.41631377;
+    let y = y0 * p;
+    let s = 7.8482703 * s0 * p;
+    let r = tame(s + y * (x - s * s) * (6.8672365125 - 23.0982550132 * (s * y)));
     f64::to_bits(r) % 0x10_0000_0000_0000 + 0x10_0000_0000_0000
 }
 
-// q, or one more, or one less: the whole number nearest to the root of v, for the v with v - q * q = above - base, which is known to be one of the three.
-// The tests are added up, and not branched on: which of the three it is cannot be foretold.
-fn beside(q: u64, base: u64, above: u64) -> u64
-    requires { ⌜ (0 < q) × (q < 2 ^ 53) × (base < 2 ^ 60) × (above < 2 ^ 60) × (base + 2 < above + 3 * q) × (above ≤ base + 3 * q + 2) ⌝ }
-    ensures { λ r. ⌜ ((v : ℕ) → above + q * q ≡ v + base → Near v r) ⌝ }
+// q or one less: the whole number nearest to the root of q * q + q - t. The test is subtracted, and not branched on: it cannot be foretold.
+fn lowered(q: u64, t: u64) -> u64
+    requires { ⌜ (2 ^ 52 ≤ q) × (q < 2 ^ 53) × (t + 2 < 4 * q) ⌝ }
+    ensures { λ r. ⌜ ((v : ℕ) → v + t ≡ q * q + q → Near v r) ⌝ }
 {
-    q + (base + q < above) as u64 - (above + q <= base) as u64
+    q - (2 * q <= t) as u64
 }
 
-// The root of m * 2^52 to the nearest whole number, from a guess q: q or a number beside it where that is right, and else by search.
+// The root of m * 2^52 to the nearest whole number, from a guess q: q or one or two less where that is right, and else by search.
 fn settle(m: u64, q: u64) -> u64
     requires { ⌜ (2 ^ 52 ≤ m) × (m + 2 ≤ 2 ^ 54) × (2 ^ 52 ≤ q) × (q < 2 ^ 53) ⌝ }
     ensures { λ r. ⌜ Near (m * 2 ^ 52) r ⌝ }
 {
-    let a = q / 0x800_0000;
-    let b = q % 0x800_0000;
-    let mid = a * b;
-    // q * q is high * 2^52 + low
-    let low = mid % 0x100_0000 * 0x1000_0000 + b * b;
-    let high = a * a * 4 + mid / 0x100_0000;
-    if high <= m + 16 {
-        let g = m + 16 - high;
-        if g < 64 {
-            // above - base is m * 2^52 - q * q
-            let above = g * 0x10_0000_0000_0000;
-            let base = low + 0x100_0000_0000_0000;
-            if base + 2 < above + 3 * q {
-                if above <= base + 3 * q + 2 {
-                    return beside(q, base, above);
-                }
+    let a = q / 0x400_0000;
+    let b = q % 0x400_0000;
+    // t is q * q + q - m * 2^52, summed modulo 2^64 from the top: with q nearly right no part of the sum is far from 0
+    let c = wrapping_sub_u64(a * a, m);
+    if wrapping_add_u64(c, 0x2000_0000) < 0x4000_0000 {
+        let d = wrapping_add_u64(c << 25, a * b);
+        if wrapping_add_u64(d, 0x1000_0000) < 0x4000_0000 {
+            let t = wrapping_add_u64(d << 27, b * b + q);
+            if t < 4 * q - 2 {
+                return lowered(q, t);
+            }
+            if t < 6 * q - 6 {
+                return q - 2;
             }
         }
     }
     search(m)
 }
 
-// The root of m * 2^52 to the nearest whole number.
-fn nearest(m: u64) -> u64
-    requires { ⌜ (2 ^ 52 ≤ m) × (m + 2 ≤ 2 ^ 54) ⌝ }
+// The root of m * 2^52 to the nearest whole number; the double with the bits i is m times a power of 4.
+fn nearest(m: u64, i: u64) -> u64
+    requires { ⌜ (2 ^ 52 ≤ m) × (m + 2 ≤ 2 ^ 54) × (2 ^ 52 ≤ i) × (i < 2047 * 2 ^ 52) ⌝ }
     ensures { λ r. ⌜ Near (m * 2 ^ 52) r ⌝ }
 {
-    settle(m, guess(m))
+    settle(m, guess(i))
 }
 
 // How far t is to be shifted to the left to have 53 digits.
@@ -120,38 +118,46 @@ fn lift(t: u64) -> u32
     u64::leading_zeros(t) - 11
 }
 
-// m * 4^k.
+// m * 4^k; and, for the guess, the bits of a double that is not subnormal and a power of 4 times as large.
 struct Scaled {
     m: u64,
     k: u64,
+    i: u64,
 }
 
 // m * 2^e as a number times a power of 4.
-fn paired(m: u64, e: u64) -> Scaled
+fn paired(m: u64, e: u64, i: u64) -> Scaled
     requires { ⌜ (2 ^ 52 ≤ m) × (m < 2 ^ 53) × (e ≤ 3067) ⌝ }
     ensures value { λ r. ⌜ m * 2 ^ e ≡ r .m * (2 ^ (r .k) * 2 ^ (r .k)) ⌝ }
-    ensures range { λ r. ⌜ (2 ^ 52 ≤ r .m) × (r .m + 2 ≤ 2 ^ 54) × (r .k ≤ 1533) ⌝ }
+    ensures range { λ r. ⌜ (2 ^ 52 ≤ r .m) × (r .m + 2 ≤ 2 ^ 54) × (r .k ≤ 1533) × (r .i ≡ i) ⌝ }
 {
     let k = e / 2;
     if e % 2 == 0 {
-        Scaled { m: m, k: k }
+        Scaled { m: m, k: k, i: i }
     } else {
-        Scaled { m: m + m, k: k }
+        Scaled {
+            m: m + m,
+            k: k,
+            i: i,
+        }
     }
 }
 
 // What the pattern b is worth, for the root: its digits, 53 or 54 of them, and half of its exponent.
 fn radicand(b: u64) -> Scaled
     requires { ⌜ Positive b ⌝ }
-    ensures { λ r. ⌜ Radicand (worth b) (r .m) (r .k) ⌝ }
+    ensures value { λ r. ⌜ Radicand (worth b) (r .m) (r .k) ⌝ }
+    ensures normal { λ r. ⌜ (2 ^ 52 ≤ r .i) × (r .i < 2047 * 2 ^ 52) ⌝ }
 {
     let t = b % 0x10_0000_0000_0000;
     let f = b / 0x10_0000_0000_0000;
     if f == 0 {
         let z = lift(t);
-        paired(t << z, 1022 - z as u64)
+        let m = t << z;
+        let e = 1022 - z as u64;
+        paired(m, e, e * 0x10_0000_0000_0000 + m)
     } else {
-        paired(t + 0x10_0000_0000_0000, f + 1021)
+        paired(t + 0x10_0000_0000_0000, f + 1021, b)
     }
 }
 
@@ -162,7 +168,7 @@ fn positive_root(x: f64) -> f64
 {
     let b = f64::to_bits(x);
     let s = radicand(b);
-    let q = nearest(s.m);
+    let q = nearest(s.m, s.i);
     f64::from_bits(s.k * 0x10_0000_0000_0000 + q)
 }
 

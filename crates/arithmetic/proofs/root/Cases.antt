@@ -1,11 +1,11 @@
 -- Which values the tests of `sqrt` leave. Assumes nothing.
 use mathlib.Core.Path.{_≡_, refl, sym, ap, _∙_, subst}
-use mathlib.Core.Bool.{Bool, true, false, _&&_, _||_, Bool·beq, true≢false, false≢true}
+use mathlib.Core.Bool.{Bool, true, false, not, _&&_, _||_, Bool·beq, true≢false, false≢true}
 use Prim.Native.Nat.{ℕ, zero, suc, _*_, _<_}
 use native.Mathlib.Nat.{lt-irrefl, zero-lt-suc, zero-mul, mul-pos}
 use lib.IntN.{ℤ, pos}
 use lib.Dec.{T, eqb, eqb→eq, ltb→lt, lt→ltb}
-use lib.Ieee.{Float, nan, inf, fin, up, down, lt, eq}
+use lib.Ieee.{Float, nan, inf, fin, up, down, isNan, lt, eq}
 use lib.Ieee.Fits.{up-pos, and-l}
 use lib.Ieee.Positive.{positive}
 use Rattle.arithmetic.specs.Root.{root}
@@ -39,6 +39,14 @@ same-zero a b r p q = subst (λ (x : ℕ). T (eqb x b && (r || eqb x 0))) (sym p
     or-true : (r : Bool) → T (true && (r || true))
     or-true true = tt
     or-true false = tt
+
+pub is-number : (y x : Float) → lt y x ≡ true → T (not (isNan x))
+unfolding lt isNan
+is-number nan nan a = absurd (false≢true a)
+is-number (inf s) nan a = absurd (false≢true a)
+is-number (fin s m e) nan a = absurd (false≢true a)
+is-number y (inf s) a = tt
+is-number y (fin s m e) a = tt
 
 pub is-positive : (x : Float) → lt nought x ≡ true → lt x (inf false) ≡ true → T (positive x)
 unfolding lt

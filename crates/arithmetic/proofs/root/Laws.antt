@@ -4,9 +4,8 @@ use Prim.Native.Nat.{ℕ, zero, suc, _+_, _-_, _*_, _/_, _%_, _^_, _≤_, _<_}
 use native.Mathlib.Nat.{le-trans, le-of-eq, le-of-lt, lt-of-le-of-lt, lt-of-not-le, not-le-of-lt, suc-add, add-comm, mul-assoc, mod-eq-of-lt, pow-succ', mul-le-mul-left, mul-le-mul-right, div-add-mod'}
 use native.Mathlib.Omega.{arith}
 use mathlib.Core.Bool.{Bool, true, false, not}
-use lib.Dec.{T, leb, ltb, leb→le, nleb→lt, ltb→lt, nltb→le, lit≤}
-use mir.Syntax.{w64}
-use mir.Val.{Fits, boolByte}
+use lib.Dec.{T, leb, leb→le, nleb→lt, lit≤}
+use mir.Val.{boolByte}
 use lib.Pow.{shl-lt, pow-add, pow-mono}
 use Rattle.arithmetic.specs.Inner.{worthAt, Near}
 
@@ -18,29 +17,63 @@ mul-lt-pow {a} s t ha hb = lt-of-le-of-lt (mul-le-mul-left a (le-of-lt hb)) (shl
 pow-lt-cancel : {a b : ℕ} → 2 ^ a < 2 ^ b → a < b
 pow-lt-cancel h = lt-of-not-le (λ g. not-le-of-lt h (pow-mono g))
 
--- the square of a number of two digits in the base 2^27
-square-split : (a b : ℕ) → (a * 2 ^ 27 + b) * (a * 2 ^ 27 + b) ≡ a * a * 2 ^ 54 + a * b * 2 ^ 28 + b * b
+-- the square of a number of two digits in the base 2^26
+square-split : (a b : ℕ) → (a * 2 ^ 26 + b) * (a * 2 ^ 26 + b) ≡ a * a * 2 ^ 52 + a * b * 2 ^ 27 + b * b
 square-split a b = omega arith
 
 -- the products of the two parts of q, as `over` and `settle` compute them
 pub record Parts (q a b : ℕ) : Type 0 where
   pub mid : a * b < 2 ^ 53
-  pub top : a * a < 2 ^ 52
-  pub bottom : b * b < 2 ^ 54
-  pub square : q * q ≡ a * a * 2 ^ 54 + a * b * 2 ^ 28 + b * b
+  pub top : a * a < 2 ^ 54
+  pub bottom : b * b < 2 ^ 52
+  pub square : q * q ≡ a * a * 2 ^ 52 + a * b * 2 ^ 27 + b * b
 
-pub parts : (q : ℕ) → q < 2 ^ 53 → Parts q (q / 2 ^ 27) (q % 2 ^ 27)
+pub parts : (q : ℕ) → q < 2 ^ 53 → Parts q (q / 2 ^ 26) (q % 2 ^ 26)
 parts q h =
-    let a = q / 2 ^ 27 in
-    let b = q % 2 ^ 27 in
-    let ha : a < 2 ^ 26 = omega arith in
-    let hb : b < 2 ^ 27 = omega arith in
+    let a = q / 2 ^ 26 in
+    let b = q % 2 ^ 26 in
+    let ha : a < 2 ^ 27 = omega arith in
+    let hb : b < 2 ^ 26 = omega arith in
     record {
-      mid = mul-lt-pow 26 27 ha hb;
-      top = mul-lt-pow 26 26 ha ha;
-      bottom = mul-lt-pow 27 27 hb hb;
-      square = ap (λ (x : ℕ). x * x) (sym (div-add-mod' q (2 ^ 27))) ∙ square-split a b;
+      mid = mul-lt-pow 27 26 ha hb;
+      top = mul-lt-pow 27 27 ha ha;
+      bottom = mul-lt-pow 26 26 hb hb;
+      square = ap (λ (x : ℕ). x * x) (sym (div-add-mod' q (2 ^ 26))) ∙ square-split a b;
     }
+
+-- ---- q * q + q - m * 2^52 as `settle` sums it: each sum modulo 2^64 that turns out small is the sum itself
+first-sum : (m x c : ℕ) → m < 2 ^ 54 → x < 2 ^ 54 → (c + m) % 2 ^ 64 ≡ x → (c + 2 ^ 29) % 2 ^ 64 < 2 ^ 30 → (c + 2 ^ 29) % 2 ^ 64 + m ≡ x + 2 ^ 29
+first-sum m x c ml xl e h = omega arith
+
+second-sum : (y c d : ℕ) → y < 2 ^ 53 → (c + 2 ^ 29) % 2 ^ 64 < 2 ^ 30 → d ≡ (c * 2 ^ 25 % 2 ^ 64 + y) % 2 ^ 64 → (d + 2 ^ 28) % 2 ^ 64 < 2 ^ 30
+    → (d + 2 ^ 28) % 2 ^ 64 + 2 ^ 54 ≡ (c + 2 ^ 29) % 2 ^ 64 * 2 ^ 25 + y + 2 ^ 28
+second-sum y c d yl l e h = omega arith
+
+third-sum : (q z d t : ℕ) → q < 2 ^ 53 → z < 2 ^ 52 → (d + 2 ^ 28) % 2 ^ 64 < 2 ^ 30 → t ≡ (d * 2 ^ 27 % 2 ^ 64 + (z + q)) % 2 ^ 64 → t + 6 < 6 * q
+    → t + 2 ^ 55 ≡ (d + 2 ^ 28) % 2 ^ 64 * 2 ^ 27 + z + q
+third-sum q z d t ql zl l e h = omega arith
+
+total : (m q s x y z e f t : ℕ) → s ≡ x * 2 ^ 52 + y * 2 ^ 27 + z → e + m ≡ x + 2 ^ 29 → f + 2 ^ 54 ≡ e * 2 ^ 25 + y + 2 ^ 28 → t + 2 ^ 55 ≡ f * 2 ^ 27 + z + q → m * 2 ^ 52 + t ≡ s + q
+total m q s x y z e f t i j k l = omega arith
+
+pub left-over : (m q c d t : ℕ) → m < 2 ^ 54 → q < 2 ^ 53
+    → (c + m) % 2 ^ 64 ≡ q / 2 ^ 26 * (q / 2 ^ 26)
+    → (c + 2 ^ 29) % 2 ^ 64 < 2 ^ 30
+    → d ≡ (c * 2 ^ 25 % 2 ^ 64 + q / 2 ^ 26 * (q % 2 ^ 26)) % 2 ^ 64
+    → (d + 2 ^ 28) % 2 ^ 64 < 2 ^ 30
+    → t ≡ (d * 2 ^ 27 % 2 ^ 64 + (q % 2 ^ 26 * (q % 2 ^ 26) + q)) % 2 ^ 64
+    → t + 6 < 6 * q
+    → m * 2 ^ 52 + t ≡ q * q + q
+left-over m q c d t ml ql ce cl de dl te tl =
+    let p = parts q ql in
+    let x = q / 2 ^ 26 * (q / 2 ^ 26) in
+    let y = q / 2 ^ 26 * (q % 2 ^ 26) in
+    let z = q % 2 ^ 26 * (q % 2 ^ 26) in
+    total m q (q * q) x y z ((c + 2 ^ 29) % 2 ^ 64) ((d + 2 ^ 28) % 2 ^ 64) t
+    (p .square)
+    (first-sum m x c ml (p .top) ce cl)
+    (second-sum y c d (p .mid) cl de dl)
+    (third-sum q z d t ql (p .bottom) dl te tl)
 
 -- ---- `Near`
 
@@ -50,6 +83,10 @@ near-next v l a b = omega arith
 -- h is near where v lies above the products at the number before it, and not above the one at h
 pub near-of : (v l h : ℕ) → h ≡ l + 1 → l * l + l < v → v ≤ h * h + h → Near v h
 near-of v l h e a b = subst (λ (x : ℕ). Near v x) (sym e) (near-next v l a (subst (λ (x : ℕ). v ≤ x * x + x) e b))
+
+-- the largest number of 53 digits, for the largest m
+pub near-top : (m : ℕ) → 0x3f_ffff_ffff_fffa < m → m + 2 ≤ 2 ^ 54 → Near (m * 2 ^ 52) 0x1f_ffff_ffff_ffff
+near-top m a b = omega arith
 
 -- ---- a number whose highest digit is at j, shifted to 53 digits; z is the count of the 64 - (j + 1) zeros above it, less 11
 pub lifted : (t j l : ℕ) → l + suc j ≡ 64 → 2 ^ j ≤ t → t < 2 ^ suc j → t < 2 ^ 52 → (2 ^ 52 ≤ t * 2 ^ (l - 11)) × (t * 2 ^ (l - 11) < 2 ^ 53) × (l - 11 ≤ 52) × (11 ≤ l)
@@ -96,46 +133,33 @@ worth-normal (suc j) t h =
     ∙ ap (λ (x : ℕ). (2 ^ 52 + t) * x) (sym (pow-add 2 j 1022) ∙ ap (λ (x : ℕ). 2 ^ x) s)
     ∙ ap (λ (x : ℕ). x * 2 ^ (suc j + 1021)) (add-comm (2 ^ 52) t)
 
--- q is near where it lies one below h, and v is not above the products at q and above those at the number before it
-pub near-before : (v l h : ℕ) → h ≡ l + 1 → h * h + 2 < v + 3 * h → v + h ≤ h * h → Near v l
-near-before v l h e a b = at (subst (λ (x : ℕ). x * x + 2 < v + 3 * x) e a) (subst (λ (x : ℕ). v + x ≤ x * x) e b)
-  where
-    at : (l + 1) * (l + 1) + 2 < v + 3 * (l + 1) → v + (l + 1) ≤ (l + 1) * (l + 1) → Near v l
-    at x y = omega arith
+-- ---- the number that `settle` picks for v, by t, which is q * q + q - v: q, or one less, or two less
+near-same : (v q t : ℕ) → v + t ≡ q * q + q → t < 2 * q → Near v q
+near-same v q t e h = omega arith
 
--- ---- the number that `settle` picks, by two tests: q, or one more, or one less
+near-before : (v l t : ℕ) → v + t ≡ (l + 1) * (l + 1) + (l + 1) → 2 * (l + 1) ≤ t → t + 2 < 4 * (l + 1) → Near v l
+near-before v l t e a b = omega arith
+
+near-second : (v l t : ℕ) → v + t ≡ (l + 2) * (l + 2) + (l + 2) → 4 * (l + 2) ≤ t + 2 → t + 6 < 6 * (l + 2) → Near v l
+near-second v l t e a b = omega arith
+
 byte-le : (b : Bool) → boolByte b ≤ 1
 byte-le true = lit≤ tt
 byte-le false = lit≤ tt
 
-pub up-fits : (q : ℕ) (a : Bool) → q < 2 ^ 53 → Fits w64 (q + boolByte a)
-up-fits q a h = omega (arith, byte-le a)
+pub lower-le : (q : ℕ) (b : Bool) → 0 < q → boolByte b ≤ q
+lower-le q b h = omega (arith, byte-le b)
 
-pub down-le : (q : ℕ) (a b : Bool) → 0 < q → boolByte b ≤ q + boolByte a
-down-le q a b h = omega (arith, byte-le b)
-
-pub picked : (v q base above : ℕ) → above + q * q ≡ v + base → base + 2 < above + 3 * q → above ≤ base + 3 * q + 2 → 0 < q
-    → Near v (q + boolByte (ltb (base + q) above) - boolByte (leb (above + q) base))
-picked v q base above e l h p =
-    go (ltb (base + q) above) (leb (above + q) base) (ltb→lt (base + q) above) (nltb→le (base + q) above) (leb→le (above + q) base) (nleb→lt (above + q) base)
+pub lower-near : (v q t : ℕ) → 0 < q → v + t ≡ q * q + q → t + 2 < 4 * q → Near v (q - boolByte (leb (2 * q) t))
+lower-near v q t p e h = go (leb (2 * q) t) (leb→le (2 * q) t) (nleb→lt (2 * q) t)
   where
-    go : (a b : Bool) → (T a → base + q < above) → (T (not a) → above ≤ base + q) → (T b → above + q ≤ base) → (T (not b) → base < above + q) → Near v (q + boolByte a - boolByte b)
-    go true true x y z w = let s = x tt in let t = z tt in absurd (no s t)
-      where
-        no : base + q < above → above + q ≤ base → ⊥
-        no s t = omega arith
-    go true false x y z w =
-        let s = x tt in
-        let k : q + 1 ≡ q + 1 - 0 = omega arith in
-        let n : Near v (q + 1) = omega arith in
-        subst (λ (r : ℕ). Near v r) k n
-    go false true x y z w =
-        let t = z tt in
-        let k : q ≡ q + 0 - 1 + 1 = omega arith in
-        near-before v (q + 0 - 1) q k (omega arith) (omega arith)
-    go false false x y z w =
-        let s = y tt in
-        let t = w tt in
-        let k : q ≡ q + 0 - 0 = omega arith in
-        let n : Near v q = omega arith in
-        subst (λ (r : ℕ). Near v r) k n
+    go : (b : Bool) → (T b → 2 * q ≤ t) → (T (not b) → t < 2 * q) → Near v (q - boolByte b)
+    go true y n =
+        let s : q ≡ q - 1 + 1 = omega arith in
+        near-before v (q - 1) t (subst (λ (x : ℕ). v + t ≡ x * x + x) s e) (subst (λ (x : ℕ). 2 * x ≤ t) s (y tt)) (subst (λ (x : ℕ). t + 2 < 4 * x) s h)
+    go false y n = let s : q ≡ q - 0 = omega arith in subst (λ (x : ℕ). Near v x) s (near-same v q t e (n tt))
+
+pub lower-twice : (v q t : ℕ) → 2 ≤ q → v + t ≡ q * q + q → 4 * q ≤ t + 2 → t + 6 < 6 * q → Near v (q - 2)
+lower-twice v q t p e a b =
+    let s : q ≡ q - 2 + 2 = omega arith in
+    near-second v (q - 2) t (subst (λ (x : ℕ). v + t ≡ x * x + x) s e) (subst (λ (x : ℕ). 4 * x ≤ t + 2) s a) (subst (λ (x : ℕ). t + 6 < 6 * x) s b)

@@ -91,7 +91,7 @@ pub near-most : (m q : ℕ) → Near (m * 2 ^ 52) q → m + 2 ≤ 2 ^ 54 → q <
 near-most m q n l = lt-of-not-le (at-most m q n l)
 
 -- a pattern below the infinity's is no NaN's
-pub small-no-nan : (b : ℕ) → b < 2047 * 2 ^ 52 → T (not (nanBits binary64 b))
+small-no-nan : (b : ℕ) → b < 2047 * 2 ^ 52 → T (not (nanBits binary64 b))
 small-no-nan b h = pattern-no-nan b (omega arith)
 
 module _ (k q : ℕ) (least : 2 ^ 52 ≤ q) (most : q < 2 ^ 53) (small : k ≤ 1533) where

@@ -23,9 +23,6 @@ add-low-2 c = omega (arith, parts (c .args .q) (c .pre))
 mul-result : tie.Need-mul-result
 mul-result c = omega (arith, parts (c .args .q) (c .pre))
 
-mul-result-2 : tie.Need-mul-result-2
-mul-result-2 c = omega (arith, parts (c .args .q) (c .pre))
-
 add-result : tie.Need-add-result
 add-result c = omega (arith, parts (c .args .q) (c .pre))
 
@@ -45,7 +42,6 @@ over-spec =
     add-low
     add-low-2
     mul-result
-    mul-result-2
     add-result
     add-result-2
     returns)

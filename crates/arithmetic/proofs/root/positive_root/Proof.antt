@@ -39,24 +39,24 @@ mul-result c = search needs
 
 -- what `nearest` returns has 53 digits
 q-least : (c : tie.After-struct-known) → 2 ^ 52 ≤ c .before .nearest .result
-q-least c = near-least (c .before .before .radicand .result .m) (c .before .nearest .result) (c .before .nearest .ensures) (c .before .before .radicand .ensures .least)
+q-least c = near-least (c .before .before .radicand .result .m) (c .before .nearest .result) (c .before .nearest .ensures) (c .before .before .radicand .ensures .0 .least)
 
 q-most : (c : tie.After-struct-known) → c .before .nearest .result < 2 ^ 53
-q-most c = near-most (c .before .before .radicand .result .m) (c .before .nearest .result) (c .before .nearest .ensures) (c .before .before .radicand .ensures .most)
+q-most c = near-most (c .before .before .radicand .result .m) (c .before .nearest .result) (c .before .nearest .ensures) (c .before .before .radicand .ensures .0 .most)
 
 add-result : tie.Need-add-result
-add-result c = omega (arith, q-most c, c .before .before .radicand .ensures .small)
+add-result c = omega (arith, q-most c, c .before .before .radicand .ensures .0 .small)
 
 float-from-bits-result : tie.Need-float-from-bits-result
-float-from-bits-result c = root-no-nan (c .before .before .radicand .result .k) (c .before .nearest .result) (q-least c) (q-most c) (c .before .before .radicand .ensures .small)
+float-from-bits-result c = root-no-nan (c .before .before .radicand .result .k) (c .before .nearest .result) (q-least c) (q-most c) (c .before .before .radicand .ensures .0 .small)
 
 returns : tie.Need-returns
 returns c =
     let x = c .before .before .before .args .x in
     let r = c .before .before .radicand in
     let q = c .before .nearest .result in
-    pattern-is (r .result .k) q (q-least c) (q-most c) (r .ensures .small)
-    ∙ sym (root-at x _ (r .result .m) (r .result .k) q (worth-here (c .before .before .before) .value) (r .ensures .value) (r .ensures .least) (omega (arith, r .ensures .most)) (c .before .nearest .ensures))
+    pattern-is (r .result .k) q (q-least c) (q-most c) (r .ensures .0 .small)
+    ∙ sym (root-at x _ (r .result .m) (r .result .k) q (worth-here (c .before .before .before) .value) (r .ensures .0 .value) (r .ensures .0 .least) (omega (arith, r .ensures .0 .most)) (c .before .nearest .ensures))
 
 pub positive-root-spec : {M : Type 1} → statement M
 positive-root-spec = tie.close (tie.spec float-to-bits-b radicand-requires nearest-requires mul-result add-result float-from-bits-result returns)

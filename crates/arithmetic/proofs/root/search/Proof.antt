@@ -1,7 +1,7 @@
 -- `arithmetic::root::search` meets its contract. Assumes nothing.
 use Prim.Native.Nat.{_+_, _-_, _*_, _^_, _≤_, _<_}
 use native.Mathlib.Omega.{arith}
-use Rattle.arithmetic.proofs.root.Laws.{near-of}
+use Rattle.arithmetic.proofs.root.Laws.{near-of, near-top}
 use Rattle.arithmetic.proofs.root.search.Statement.{statement}
 use Rattle.arithmetic.proofs.root.search.Tie as tie
 
@@ -10,6 +10,9 @@ Inv-loop m lo₀ hi₀ lo hi = (lo < hi) × (hi < 2 ^ 53) × (lo * lo + lo < m *
 
 abbrev μ-loop : tie.MeasureT-loop
 μ-loop m lo₀ hi₀ lo hi = hi - lo
+
+returns : tie.Need-returns Inv-loop μ-loop
+returns c = near-top (c .before .args .m) (omega arith) (omega arith)
 
 loop-holds : tie.Need-loop-holds Inv-loop μ-loop
 loop-holds c = omega arith
@@ -35,8 +38,8 @@ loop-less-2 c = omega arith
 loop-again-2 : tie.Need-loop-again-2 Inv-loop μ-loop
 loop-again-2 c = omega arith
 
-returns : tie.Need-returns Inv-loop μ-loop
-returns c = near-of (c .before .before .args .m * 2 ^ 52) (c .before .loop .lo) (c .before .loop .hi) (omega arith) (omega arith) (omega arith)
+returns-2 : tie.Need-returns-2 Inv-loop μ-loop
+returns-2 c = near-of (c .before .before .before .args .m * 2 ^ 52) (c .before .loop .lo) (c .before .loop .hi) (omega arith) (omega arith) (omega arith)
 
 pub search-spec : {M : Type 1} → statement M
 search-spec =
@@ -44,6 +47,7 @@ search-spec =
     (tie.spec
     Inv-loop
     μ-loop
+    returns
     loop-holds
     sub-loop
     add-mid
@@ -52,4 +56,4 @@ search-spec =
     loop-again
     loop-less-2
     loop-again-2
-    returns)
+    returns-2)
