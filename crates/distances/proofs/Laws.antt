@@ -1,23 +1,26 @@
 -- The cells of both matrices. Assumes nothing.
 use Prim.Native.Nat.{ℕ, _+_, _*_, _<_, _≤_}
-use mathlib.Core.Path.{_≡_, sym, ap, subst, _∙_}
+use mathlib.Core.Path.{_≡_, refl, sym, ap, _∙_}
+use mathlib.Core.Logic.{⊎-elim}
 use mathlib.Core.List.{List}
-use native.Mathlib.Nat.{min-comm, max-comm, min-eq-left, max-eq-right, ne-of-lt, le-antisymm}
+use native.Mathlib.Nat.{min-comm, max-comm, min-eq-left, max-eq-right, le-antisymm}
 use native.Mathlib.Decide.{decLt}
 use native.Mathlib.Omega.{arith}
-use borrow.Author.Count.{below-more}
 use borrow.Author.Tests.{eq-eqb, ne-eqb}
-use lib.ListN.{length, getD, set, replicate, length-set, length-replicate, getD-replicate}
+use lib.ListN.{length, getD, set, replicate, length-set}
 use lib.Seq.{getD-set-same, getD-set-other}
 use lib.Dec.{T}
 use lib.Ieee.{Float, nan, binary64, add, sub, mul, fits, ofBits, toBits}
 use lib.Ieee.Bits.{ofBits-toBits}
 use Rattle.arithmetic.specs.Constants.{pz}
 use Rattle.lent.specs.Grid.{cell}
+use Rattle.lent.proofs.Laws.{same-or-not}
 use Rattle.lent.proofs.Sums.{sum-start, sum-step}
+use Rattle.lent.proofs.Held.{held-start, held-all}
 use Rattle.distances.specs.declared.Measure.{Measure}
 use Rattle.distances.specs.Distances.{distanceOf, distanceCell, offDiagonal, square, between, betweenCell}
-use Rattle.distances.specs.Inner.{sumOf, Held, Picked}
+use Rattle.lent.specs.Inner.{Held}
+use Rattle.distances.specs.Inner.{sumOf, withSquare, Picked}
 
 -- the distances of a cell and of the one across the diagonal, where the two have the same bits
 pub distance-across : (of : Measure) (corr : List Float) (n i j : ℕ) → ((k : ℕ) → T (fits binary64 (getD corr k nan))) → toBits binary64 (cell corr n i j) ≡ toBits binary64 (cell corr n j i)
@@ -46,51 +49,56 @@ module _ (d : List Float) (n i j : ℕ) where
       let e′ : j ≡ i → ⊥ = λ q. omega arith in
       rw (ne-eqb i j e, ne-eqb j i e′, min-comm i j, max-comm i j)
 
--- ---- entries held: where a loop stands at j, those before it are new and those from it on are old
+-- the diagonal is taken as 0, and what is off it as it is
+off-same : (d : List Float) (n k j : ℕ) → (k ≡ j → ⊥) → cell d n k j ≡ offDiagonal d n k j
+unfolding offDiagonal
+off-same d n k j ne = rw (ne-eqb k j ne)
 
-module _ (f : ℕ → Float) (m : List Float) where
-  pub held-none : (lo : ℕ) → lo ≤ length m → Held m lo lo f
-  held-none lo h = record { size = h; entry = λ k a b. absurd (omega arith) }
-
-  pub held-step : (v : Float) (lo j : ℕ) → Held m lo j f → v ≡ f j → j < length m → Held (set m j v) lo (j + 1) f
-  held-step v lo j p e h =
-      record {
-        size = omega (arith, length-set m j v);
-        entry = λ k a b.
-            below-more (λ i. lo ≤ i → getD (set m j v) i nan ≡ f i) j
-            (λ i l q. getD-set-other m j i v nan (ne-of-lt l) ∙ p .entry i q l)
-            (λ q. getD-set-same m j v nan h ∙ e) k b a;
-      }
-
-  pub held-rest : (v : Float) (j n : ℕ) → Held m j n f → Held (set m j v) (j + 1) n f
-  held-rest v j n p =
-      record {
-        size = omega (arith, p .size, length-set m j v);
-        entry = λ k a b. getD-set-other m j k v nan (λ q. omega arith) ∙ p .entry k (omega arith) b;
-      }
-
-  pub held-end : (lo j n : ℕ) → Held m lo j f → n ≤ j → Held m lo n f
-  held-end lo j n p h = record { size = omega (arith, p .size); entry = λ k a b. p .entry k a (omega arith) }
+off-own : (d : List Float) (n k : ℕ) → pz ≡ offDiagonal d n k k
+unfolding offDiagonal
+off-own d n k = rw (eq-eqb k k refl)
 
 -- ---- the sums of column i and each column after it
 
 module _ (d : List Float) (n i : ℕ) where
   pub sums-none : (lo : ℕ) → n ≤ 64 → Held (replicate 64 pz) lo n (sumOf d n i 0)
   unfolding sumOf
-  sums-none lo h =
+  sums-none lo h = held-start (sumOf d n i 0) lo n h (λ k. sum-start _)
+
+  -- row k's square, added to the sum so far
+  pub squares-term : (sums : List Float) (x y : Float) (k j : ℕ) → Held sums j n (sumOf d n i k) → j < n → y ≡ cell d n k j
+      → add binary64 (getD sums j nan) (mul binary64 (sub binary64 x y) (sub binary64 x y)) ≡ withSquare d n i k x j
+  unfolding withSquare square
+  squares-term sums x y k j p h e = rw (p .entry j (omega arith) h, e)
+
+  -- off the diagonal it is row k's term
+  square-off : (x : Float) (k j : ℕ) → x ≡ offDiagonal d n k i → (k ≡ j → ⊥) → withSquare d n i k x j ≡ sumOf d n i (k + 1) j
+  unfolding withSquare sumOf
+  square-off x k j e ne =
+      let o : cell d n k j ≡ offDiagonal d n k j = off-same d n k j ne in
+      sum-step _ _ _ k refl (rw (e, o))
+
+  -- no column is the row's own
+  pub row-added : (sums : List Float) (x : Float) (k : ℕ) → Held sums (i + 1) n (withSquare d n i k x) → x ≡ offDiagonal d n k i → k ≤ i → Held sums (i + 1) n (sumOf d n i (k + 1))
+  row-added sums x k p e h = record { size = p .size; entry = λ j a b. p .entry j a b ∙ square-off x k j e (λ q. omega arith) }
+
+  -- column k is, and its sum is made from the one before
+  pub row-mended : (sums : List Float) (x before v : Float) (k : ℕ) → Held sums (i + 1) n (withSquare d n i k x) → x ≡ offDiagonal d n k i → before ≡ sumOf d n i k k
+      → v ≡ add binary64 before (square (sub binary64 x pz)) → i < k → k < n → Held (set sums k v) (i + 1) n (sumOf d n i (k + 1))
+  unfolding sumOf
+  row-mended sums x before v k p e f g h b =
+      let own : v ≡ sumOf d n i (k + 1) k = g ∙ sum-step _ _ _ k f (rw (e, off-own d n k)) in
       record {
-        size = omega (arith, length-replicate 64 pz);
-        entry = λ k a b. getD-replicate 64 k pz nan (omega arith) ∙ sum-start _;
+        size = omega (arith, p .size, length-set sums k v);
+        entry = λ j a c.
+            ⊎-elim
+            (λ q. rw q (getD-set-same sums k v nan (omega (arith, p .size)) ∙ own))
+            (λ q. getD-set-other sums k j v nan q ∙ p .entry j a c ∙ square-off x k j e (λ z. q (sym z)))
+            (same-or-not j k);
       }
 
-  -- row k's term, added to the sum so far
-  pub sums-term : (sums : List Float) (x y : Float) (k j : ℕ) → Held sums j n (sumOf d n i k) → j < n → x ≡ offDiagonal d n k i → y ≡ offDiagonal d n k j
-      → add binary64 (getD sums j nan) (mul binary64 (sub binary64 x y) (sub binary64 x y)) ≡ sumOf d n i (k + 1) j
-  unfolding sumOf square
-  sums-term sums x y k j p h e e′ = sum-step _ _ _ k (p .entry j (omega arith) h) (rw (e, e′))
-
   pub sums-end : (sums : List Float) (lo k : ℕ) → Held sums lo n (sumOf d n i k) → k ≤ n → n ≤ k → Held sums lo n (sumOf d n i n)
-  sums-end sums lo k p h g = subst (λ (q : ℕ). Held sums lo n (sumOf d n i q)) (le-antisymm h g) p
+  sums-end sums lo k p h g = held-all (sumOf d n i) sums lo n k n p h g
 
   -- cell (i, j), from the sums of all rows and the rows above
   pub between-picked : (r : Float) (sums out : List Float) (j : ℕ) → Picked r sums out n i j → Held sums (i + 1) n (sumOf d n i n) → j < n

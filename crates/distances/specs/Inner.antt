@@ -1,9 +1,9 @@
 -- What the private functions ask of one another and promise: may be skipped. Definitions only.
-use Prim.Native.Nat.{ℕ, _<_, _≤_}
+use Prim.Native.Nat.{ℕ, _<_}
 use mathlib.Core.Path.{_≡_}
 use mathlib.Core.List.{List}
-use lib.ListN.{length, getD}
-use lib.Ieee.{Float, nan, binary64, sub}
+use lib.ListN.{getD}
+use lib.Ieee.{Float, nan, binary64, add, sub}
 use Rattle.arithmetic.specs.Constants.{pz}
 use Rattle.arithmetic.specs.Root.{root}
 use Rattle.lent.specs.Grid.{cell, sumTo}
@@ -13,10 +13,10 @@ use Rattle.distances.specs.Distances.{offDiagonal, square}
 unfoldable pub sumOf : List Float → ℕ → ℕ → ℕ → ℕ → Float
 sumOf d n i k j = sumTo k (λ q. square (sub binary64 (offDiagonal d n q i) (offDiagonal d n q j)))
 
--- the entries of m from lo up to hi are f lo, f (lo + 1), .., f (hi - 1)
-pub record Held (m : List Float) (lo hi : ℕ) (f : ℕ → Float) : Type 0 where
-  pub size : hi ≤ length m
-  pub entry : (k : ℕ) → lo ≤ k → k < hi → getD m k nan ≡ f k
+-- that sum and the square of x less row k's cell, were it the diagonal's too
+unfoldable pub withSquare : List Float → ℕ → ℕ → ℕ → Float → ℕ → Float
+unfolding sumOf
+withSquare d n i k x j = add binary64 (sumOf d n i k j) (square (sub binary64 x (cell d n k j)))
 
 -- r is what cell (i, j) is to be: from across the diagonal, +0, or from its sum
 pub record Picked (r : Float) (sums out : List Float) (n i j : ℕ) : Type 0 where

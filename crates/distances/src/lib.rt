@@ -7,7 +7,8 @@ ghost use Prim.Native.Nat.{_+_, _*_, _<_, _≤_};
 ghost use lib.ListN.{length, set};
 ghost use Rattle.lent.specs.Grid.{cell, grid, over};
 ghost use Rattle.distances.specs.Distances.{distanceOf, distanceCell, distanceAnswer, distances, offDiagonal, betweenCell, betweens};
-ghost use Rattle.distances.specs.Inner.{Held, Picked, sumOf};
+ghost use Rattle.lent.specs.Inner.{Held};
+ghost use Rattle.distances.specs.Inner.{Picked, sumOf, withSquare};
 
 // Which allocator's distance.
 pub enum Measure {
@@ -106,7 +107,7 @@ pub fn corr_to_distances(
     lent::answered(said, columns, columns)
 }
 
-// Cell (k, i), the diagonal taken as 0. It is read first: a read that is always made can be vectorized.
+// Cell (k, i), the diagonal taken as 0.
 fn off_diagonal(d: &[f64], n: usize, k: usize, i: usize) -> f64
     requires { ⌜ length (now d) ≡ n * n ⌝ }
     requires { ⌜ k < n ⌝ }
@@ -117,7 +118,24 @@ fn off_diagonal(d: &[f64], n: usize, k: usize, i: usize) -> f64
     if k == i { 0.0 } else { x }
 }
 
-// Row k's terms are added to the sums of column i and each column after it, which so go side by side.
+// The squares of x less each cell of row k, added to the sums of each column after i, which so go side by side. The diagonal is read as it is, so that no cell is asked whether it is one.
+fn add_squares(d: &[f64], n: usize, i: usize, k: usize, x: f64, sums: &mut [f64; 64])
+    requires { ⌜ length (now d) ≡ n * n ⌝ }
+    requires { ⌜ n ≤ 64 ⌝ }
+    requires { ⌜ i < n ⌝ }
+    requires { ⌜ k < n ⌝ }
+    requires { ⌜ Held (now sums) (i + 1) n (sumOf (now d) n i k) ⌝ }
+    ensures { λ _. ⌜ Held (now (sums .exit)) (i + 1) n (withSquare (now (d .entry)) n i k x) ⌝ }
+{
+    let mut j = i + 1;
+    while j < n {
+        let y = x - at(d, n, k, j);
+        sums[j] = sums[j] + y * y;
+        j += 1;
+    }
+}
+
+// Row k's terms are added to the sums of each column after i. Column k's is mended after it, whose cell is the diagonal's and taken as 0.
 fn add_row(d: &[f64], n: usize, i: usize, k: usize, sums: &mut [f64; 64])
     requires { ⌜ length (now d) ≡ n * n ⌝ }
     requires { ⌜ n ≤ 64 ⌝ }
@@ -127,11 +145,11 @@ fn add_row(d: &[f64], n: usize, i: usize, k: usize, sums: &mut [f64; 64])
     ensures { λ _. ⌜ Held (now (sums .exit)) (i + 1) n (sumOf (now (d .entry)) n i (k + 1)) ⌝ }
 {
     let x = off_diagonal(d, n, k, i);
-    let mut j = i + 1;
-    while j < n {
-        let y = x - off_diagonal(d, n, k, j);
-        sums[j] = sums[j] + y * y;
-        j += 1;
+    let before = sums[k];
+    add_squares(d, n, i, k, x, sums);
+    if i < k {
+        let y = x - 0.0;
+        sums[k] = before + y * y;
     }
 }
 

@@ -6,3 +6,4 @@ pub mod Clearing
 pub mod Sizes
 pub mod Fill
 pub mod Copying
+pub mod Held

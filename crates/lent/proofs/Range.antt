@@ -1,8 +1,9 @@
 -- The laws of a counted loop: `range-none` where it begins, `range-more` for one more turn, `range-end` where it ends. Assumes nothing.
 use Prim.Native.Nat.{ℕ, zero, suc, _+_, _-_, _≤_, _<_}
-use mathlib.Core.Path.{_≡_, refl, ap, subst, _∙_}
+use mathlib.Core.Path.{_≡_, refl, sym, ap, subst, _∙_}
 use mathlib.Core.Logic.{⊎-elim}
-use native.Mathlib.Nat.{eq-or-lt-of-le, le-of-suc-le-suc, add-suc, le-antisymm}
+use native.Mathlib.Nat.{eq-or-lt-of-le, le-of-suc-le-suc, add-zero, add-suc, le-antisymm}
+use native.Mathlib.Numerals.{add-one}
 use native.Mathlib.Omega.{arith}
 use Rattle.lent.specs.Range.{span, range}
 
@@ -18,6 +19,24 @@ range-more f lo i s h =
     let e : i + 1 - lo ≡ suc (i - lo) = omega arith in
     let g : lo + (i - lo) ≡ i = omega arith in
     rw e (ap (λ (j : ℕ). f j (span f lo (i - lo) s)) g)
+
+-- the same at a successor
+pub range-suc : {S : Type 0} (f : ℕ → S → S) (lo i : ℕ) (s : S) → lo ≤ i → range f lo (suc i) s ≡ f i (range f lo i s)
+range-suc f lo i s h = ap (λ (k : ℕ). range f lo k s) (sym (add-one i)) ∙ range-more f lo i s h
+
+-- the first turn taken by itself
+span-first : {S : Type 0} (f : ℕ → S → S) (lo k : ℕ) (s : S) → span f lo (suc k) s ≡ span f (lo + 1) k (f lo s)
+unfolding span
+span-first f lo zero s = ap (λ (i : ℕ). f i s) (add-zero lo)
+span-first f lo (suc k) s =
+    let e : lo + suc k ≡ lo + 1 + k = omega arith in
+    ap (f (lo + suc k)) (span-first f lo k s) ∙ ap (λ (i : ℕ). f i (span f (lo + 1) k (f lo s))) e
+
+pub range-first : {S : Type 0} (f : ℕ → S → S) (lo hi : ℕ) (s : S) → lo < hi → range f lo hi s ≡ range f (lo + 1) hi (f lo s)
+unfolding range
+range-first f lo hi s h =
+    let e : hi - lo ≡ suc (hi - (lo + 1)) = omega arith in
+    ap (λ (k : ℕ). span f lo k s) e ∙ span-first f lo (hi - (lo + 1)) s
 
 -- what each turn keeps holds at the end
 span-keeps : {S : Type 0} (P : S → Type 0) (f : ℕ → S → S) (lo k : ℕ) (s : S) → P s

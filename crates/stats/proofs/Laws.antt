@@ -8,9 +8,10 @@ use native.Mathlib.Omega.{arith}
 use borrow.Author.Count.{below-none, below-more}
 use borrow.Author.Tests.{ltb-false}
 use lib.Dec.{ltb, eqb}
-use lib.ListN.{length, getD, set}
+use native.Mathlib.Decide.{decLt}
+use lib.ListN.{length, getD, set, replicate}
 use lib.Seq.{getD-set-same, getD-set-other}
-use lib.Ieee.{Float, nan, binary64, sub, mul, div}
+use lib.Ieee.{Float, nan, binary64, add, sub, mul, div}
 use Rattle.arithmetic.specs.Constants.{pz, unit, two}
 use Rattle.refusal.specs.Table.{Line, first, orElse}
 use Rattle.refusal.specs.declared.Refusal.{Refusal}
@@ -18,11 +19,15 @@ use Rattle.refusal.specs.declared.Refusal.the-variants.{NoData, DimensionMismat
 use Rattle.refusal.specs.declared.Outcome.{Outcome}
 use Rattle.refusal.specs.declared.Outcome.the-variants.{Done, Refused}
 use Rattle.refusal.proofs.Tables.{table, table-end, none, first-done, first-refused, parts-done}
+use Rattle.lent.specs.Grid.{cell}
 use Rattle.lent.specs.Lent.{sizes, squares}
+use Rattle.lent.specs.Inner.{Held}
+use Rattle.lent.proofs.Sums.{sum-start, sum-step}
+use Rattle.lent.proofs.Held.{held-start, held-all}
 use Rattle.lent.proofs.Sizes.{sized-done, squared-done}
 use Rattle.stats.specs.Covariance.{meanOf, spread, covarianceOf, covarianceCell, covarianceTable, covarianceOutcome, shrinkOutcome, anyLow, correlationTable, correlationOutcome}
 use Rattle.stats.specs.Expected.{f501, weightAt, expectedOutcome}
-use Rattle.stats.specs.Inner.{Whole, Kept}
+use Rattle.stats.specs.Inner.{Whole, Kept, productsOf, Taken}
 
 -- ---- entries worked out once and kept
 
@@ -51,6 +56,32 @@ cell-across xs rows w i j = rw (min-comm i j, max-comm i j)
 pub cell-up : (xs : List Float) (rows w i j : ℕ) → i ≤ j → covarianceCell xs rows w i j ≡ spread xs rows w (meanOf xs rows w i) (meanOf xs rows w j) i j
 unfolding covarianceCell covarianceOf
 cell-up xs rows w i j h = rw (min-eq-left h, max-eq-right h)
+
+-- ---- the sums of column i with itself and each column after it
+
+module _ (xs : List Float) (w : ℕ) (m : List Float) (i : ℕ) where
+  pub products-none : w ≤ 64 → Held (replicate 64 pz) i w (productsOf xs w m i 0)
+  unfolding productsOf
+  products-none h = held-start (productsOf xs w m i 0) i w h (λ k. sum-start _)
+
+  -- row r's product, added to the sum so far
+  pub products-term : (sums : List Float) (x y : Float) (r j : ℕ) → Held sums j w (productsOf xs w m i r) → j < w → x ≡ cell xs w r i → y ≡ cell xs w r j
+      → add binary64 (getD sums j nan) (mul binary64 (sub binary64 x (getD m i nan)) (sub binary64 y (getD m j nan))) ≡ productsOf xs w m i (r + 1) j
+  unfolding productsOf
+  products-term sums x y r j p h e e′ = sum-step _ _ _ r (p .entry j (omega arith) h) (rw (e, e′))
+
+  pub products-end : (sums : List Float) (r rows : ℕ) → Held sums i w (productsOf xs w m i r) → r ≤ rows → rows ≤ r → Held sums i w (productsOf xs w m i rows)
+  products-end sums r rows p h g = held-all (productsOf xs w m i) sums i w r rows p h g
+
+  -- cell (i, j), from the sums of all rows and the rows above
+  pub cell-taken : (v : Float) (sums out : List Float) (rows j : ℕ) → Taken v sums rows w i j out → Held sums i w (productsOf xs w m i rows) → Kept m w (meanOf xs rows w) → i < w → j < w
+      → (j < i → cell out w j i ≡ covarianceCell xs rows w j i) → v ≡ covarianceCell xs rows w i j
+  unfolding productsOf spread
+  cell-taken v sums out rows j t s k hi hj above =
+      elim (decLt j i) [
+        | yes l ↦ t .left l ∙ above l ∙ cell-across xs rows w j i
+        | no g ↦ let l : i ≤ j = omega arith in t .right l ∙ rw (s .entry j l hj, k .entry i hi, k .entry j hj) (sym (cell-up xs rows w i j l))
+      ]
 
 -- ---- the weight of the next older row
 

@@ -8,10 +8,11 @@ ghost use Prim.Native.Nat.{_+_, _*_, _<_, _≤_};
 ghost use lib.ListN.{length, set};
 ghost use Rattle.arithmetic.specs.Root.{root};
 ghost use Rattle.lent.specs.Grid.{cell, tab, grid, over};
-ghost use Rattle.stats.specs.Covariance.{meanOf, spread, covarianceCell, covarianceOutcome, covarianceAnswer, covariances};
+ghost use Rattle.stats.specs.Covariance.{meanOf, covarianceCell, covarianceOutcome, covarianceAnswer, covariances};
 ghost use Rattle.stats.specs.Covariance.{shrunkCell, shrinkAnswer, shrunk, correlationCell, anyLow, correlationOutcome, correlationAnswer, correlations};
 ghost use Rattle.stats.specs.Expected.{meanReturn, exponentialReturn, expectedOutcome, expectedAnswer, meanReturns, exponentialReturns};
-ghost use Rattle.stats.specs.Inner.{Whole, Kept};
+ghost use Rattle.lent.specs.Inner.{Held};
+ghost use Rattle.stats.specs.Inner.{Whole, Kept, productsOf, Taken};
 
 // Cell (r, c) of a matrix of w columns.
 fn at(xs: &[f64], w: usize, r: usize, c: usize) -> f64
@@ -58,46 +59,58 @@ fn means(xs: &[f64], rows: usize, w: usize) -> [f64; 64]
     m
 }
 
-// The products of the differences from a and b in columns i and j, summed over the rows and divided by rows - 1.
-fn spread_of(xs: &[f64], rows: usize, w: usize, a: f64, b: f64, i: usize, j: usize) -> f64
-    requires { ⌜ Whole (now xs) rows w ⌝ }
-    requires { ⌜ 2 ≤ rows ⌝ }
-    requires { ⌜ i < w ⌝ }
-    requires { ⌜ j < w ⌝ }
-    ensures { λ r. ⌜ r ≡ spread (now (xs .entry)) rows w a b i j ⌝ }
-{
-    let mut s = 0.0;
-    let mut r = 0;
-    while r < rows {
-        s = s + (at(xs, w, r, i) - a) * (at(xs, w, r, j) - b);
-        r += 1;
-    }
-    s / arithmetic::count(rows - 1)
-}
-
-// Cell (i, j), after the rows above it: left of the diagonal it is copied from across it.
-fn covariance_cell(
+// Row r's products are added to the sums of column i with itself and each column after it, which so go side by side.
+fn add_row(
     xs: &[f64],
     rows: usize,
     w: usize,
     m: &[f64; 64],
     i: usize,
-    j: usize,
-    out: &[f64],
-) -> f64
+    r: usize,
+    sums: &mut [f64; 64],
+)
     requires { ⌜ Whole (now xs) rows w ⌝ }
+    requires { ⌜ i < w ⌝ }
+    requires { ⌜ r < rows ⌝ }
+    requires { ⌜ Held (now sums) i w (productsOf (now xs) w (now m) i r) ⌝ }
+    ensures { λ _. ⌜ Held (now (sums .exit)) i w (productsOf (now (xs .entry)) w (now (m .entry)) i (r + 1)) ⌝ }
+{
+    let x = at(xs, w, r, i) - m[i];
+    let mut j = i;
+    while j < w {
+        sums[j] = sums[j] + x * (at(xs, w, r, j) - m[j]);
+        j += 1;
+    }
+}
+
+// The sums of the products of column i with itself and each column after it.
+fn sums_of(xs: &[f64], rows: usize, w: usize, m: &[f64; 64], i: usize) -> [f64; 64]
+    requires { ⌜ Whole (now xs) rows w ⌝ }
+    requires { ⌜ i < w ⌝ }
+    ensures { λ s. ⌜ Held s i w (productsOf (now (xs .entry)) w (now (m .entry)) i rows) ⌝ }
+{
+    let mut sums = [0.0; 64];
+    let mut r = 0;
+    while r < rows {
+        add_row(xs, rows, w, m, i, r, &mut sums);
+        r += 1;
+    }
+    sums
+}
+
+// Cell (i, j), after the rows above it: left of the diagonal it is copied from across it, else its sum is divided by rows - 1.
+fn covariance_cell(sums: &[f64; 64], rows: usize, w: usize, i: usize, j: usize, out: &[f64]) -> f64
+    requires { ⌜ w ≤ 64 ⌝ }
     requires { ⌜ 2 ≤ rows ⌝ }
-    requires { ⌜ Kept (now m) w (meanOf (now xs) rows w) ⌝ }
     requires { ⌜ i < w ⌝ }
     requires { ⌜ j < w ⌝ }
     requires { ⌜ w * w ≤ length (now out) ⌝ }
-    requires { ⌜ (j < i → cell (now out) w j i ≡ covarianceCell (now xs) rows w j i) ⌝ }
-    ensures { λ r. ⌜ r ≡ covarianceCell (now (xs .entry)) rows w i j ⌝ }
+    ensures { λ v. ⌜ Taken v (now (sums .entry)) rows w i j (now (out .entry)) ⌝ }
 {
     if j < i {
         return at(out, w, j, i);
     }
-    spread_of(xs, rows, w, m[i], m[j], i, j)
+    sums[j] / arithmetic::count(rows - 1)
 }
 
 // Row i, after the rows above it.
@@ -110,9 +123,10 @@ fn covariance_row(xs: &[f64], rows: usize, w: usize, m: &[f64; 64], i: usize, ou
     requires { ⌜ over (grid i w (covarianceCell (now xs) rows w)) (now out) ≡ now out ⌝ }
     ensures { λ _. ⌜ now (out .exit) ≡ over (grid (i + 1) w (covarianceCell (now (xs .entry)) rows w)) (now (out .entry)) ⌝ }
 {
+    let sums = sums_of(xs, rows, w, m, i);
     let mut j = 0;
     while j < w {
-        let v = covariance_cell(xs, rows, w, m, i, j, &out[..]);
+        let v = covariance_cell(&sums, rows, w, i, j, &out[..]);
         put(out, w, i, j, v);
         j += 1;
     }

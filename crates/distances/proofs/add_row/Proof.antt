@@ -1,77 +1,50 @@
--- `distances::add_row` meets its contract. The sums before j have row k's term, and those from j on not yet. Assumes nothing.
-use Prim.Native.Nat.{_+_, _-_, _≤_}
+-- `distances::add_row` meets its contract. Assumes nothing.
+use mathlib.Core.Path.{refl}
 use native.Mathlib.Omega.{arith}
+use borrow.Author.Needs.{needs}
 use Rattle.lent.proofs.Fill.{filling}
-use Rattle.distances.specs.Inner.{Held, sumOf}
-use Rattle.distances.proofs.Laws.{held-none, held-step, held-rest, held-end, sums-term}
+use Rattle.distances.specs.Distances.{square}
+use Rattle.distances.proofs.Laws.{row-added, row-mended}
 use Rattle.distances.proofs.add_row.Statement.{statement}
 use Rattle.distances.proofs.add_row.Tie as tie
 
-abbrev Inv-loop : tie.InvT-loop
-Inv-loop d n i k sums₀ x j₀ sums j =
-    (i + 1 ≤ j) × (j ≤ n) × Held sums (i + 1) j (sumOf d n i (k + 1)) × Held sums j n (sumOf d n i k)
+off-diagonal-requires : tie.Need-off-diagonal-requires
+off-diagonal-requires c κs = search needs
 
-abbrev μ-loop : tie.MeasureT-loop
-μ-loop d n i k sums₀ x j₀ sums j = n - j
+mul-before : tie.Need-mul-before
+mul-before c = search needs
 
-off-diagonal-requires : tie.Need-off-diagonal-requires Inv-loop μ-loop
-off-diagonal-requires c κs = search filling
+element-copy-out-before : tie.Need-element-copy-out-before
+element-copy-out-before c = search needs
 
-add-j : tie.Need-add-j Inv-loop μ-loop
-add-j c = search filling
+add-squares-requires : tie.Need-add-squares-requires
+add-squares-requires c κs = search needs
 
-loop-holds : tie.Need-loop-holds Inv-loop μ-loop
-loop-holds c =
-    let s = c .before .before in
-    let p = s .pre .1 .1 .1 .1 in
-    (search filling, search filling, held-none _ _ _ (omega (arith, p .size)), p)
+mul-sums : tie.Need-mul-sums
+mul-sums c = search needs
 
-off-diagonal-requires-2 : tie.Need-off-diagonal-requires-2 Inv-loop μ-loop
-off-diagonal-requires-2 c κs = search filling
+element-write-sums : tie.Need-element-write-sums
+element-write-sums c = search needs
 
-mul-sums : tie.Need-mul-sums Inv-loop μ-loop
-mul-sums c = search filling
+returns : tie.Need-returns
+unfolding square
+returns c =
+    let off = c .before .before .before .before in
+    let p = off .before .before .pre in
+    row-mended _ _ _ _ _ _ _ _ (c .before .add-squares .ensures) (off .off-diagonal .ensures) (p .1 .1 .1 .1 .entry _ (omega (arith, c .if1 .taken)) (p .1 .1 .1 .0)) refl (c .if1 .taken) (p .1 .1 .1 .0)
 
-element-copy-out-sums : tie.Need-element-copy-out-sums Inv-loop μ-loop
-element-copy-out-sums c = search filling
-
-mul-sums-2 : tie.Need-mul-sums-2 Inv-loop μ-loop
-mul-sums-2 c = search filling
-
-element-write-sums : tie.Need-element-write-sums Inv-loop μ-loop
-element-write-sums c = search filling
-
-add-j-2 : tie.Need-add-j-2 Inv-loop μ-loop
-add-j-2 c = search filling
-
-loop-less : tie.Need-loop-less Inv-loop μ-loop
-loop-less c = search filling
-
-loop-again : tie.Need-loop-again Inv-loop μ-loop
-loop-again c =
-    let at = c .before .before .before in
-    let h = at .loop .inv .3 in
-    let t = sums-term _ _ _ _ _ _ _ _ h (c .before .before .loop-test .taken) (at .before .off-diagonal .ensures) (c .before .off-diagonal2 .ensures) in
-    (search filling, search filling, held-step _ _ _ _ _ (at .loop .inv .2) t (omega (arith, h .size)), held-rest _ _ _ _ _ h)
-
-returns : tie.Need-returns Inv-loop μ-loop
-returns c = held-end _ _ _ _ _ (c .before .loop .inv .2) (c .loop-test .left)
+returns-2 : tie.Need-returns-2
+returns-2 c = row-added _ _ _ _ _ _ (c .before .add-squares .ensures) (c .before .before .before .before .off-diagonal .ensures) (c .if1 .left)
 
 pub add-row-spec : {M : Type 1} → statement M
 add-row-spec =
     tie.close
     (tie.spec
-    Inv-loop
-    μ-loop
     off-diagonal-requires
-    add-j
-    loop-holds
-    off-diagonal-requires-2
+    mul-before
+    element-copy-out-before
+    add-squares-requires
     mul-sums
-    element-copy-out-sums
-    mul-sums-2
     element-write-sums
-    add-j-2
-    loop-less
-    loop-again
-    returns)
+    returns
+    returns-2)

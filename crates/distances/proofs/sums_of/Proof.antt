@@ -1,7 +1,8 @@
 -- `distances::sums_of` meets its contract. The sums so far are those of the first k rows. Assumes nothing.
 use Prim.Native.Nat.{_+_, _-_, _≤_}
 use Rattle.lent.proofs.Fill.{filling}
-use Rattle.distances.specs.Inner.{Held, sumOf}
+use Rattle.lent.specs.Inner.{Held}
+use Rattle.distances.specs.Inner.{sumOf}
 use Rattle.distances.proofs.Laws.{sums-none, sums-end}
 use Rattle.distances.proofs.sums_of.Statement.{statement}
 use Rattle.distances.proofs.sums_of.Tie as tie
