@@ -25,7 +25,8 @@ use Rattle.linkage.specs.declared.NamedLinkage.{NamedLinkage}
 use Rattle.linkage.specs.declared.NamedLinkage.the-variants as linkage
 use Rattle.linkage.specs.Names.{distanceNamed, linkageNamed}
 use Rattle.linkage.specs.Merge.{wardF, updateF, pairBefore, near, better, offer, look, scanRow, scanFrom, scanAll, both, movable, moved, movedAll, merged, step, copied, start, stateAt, mergeRows}
-use Rattle.linkage.specs.Children.{childrenTable, childrenOutcome, childrenRows}
+use Rattle.linkage.specs.Pairs.{countOne, countRow, countFrom, countAll, pairsAt, pairsVisited}
+use Rattle.linkage.specs.Children.{childrenTable, childrenOutcome, joinedOf, childrenAnswer, pairsOf, childrenRows}
 
 abbrev all : List Bool → Bool
 all [] = true
@@ -128,6 +129,17 @@ calls =
     ∷ same (childrenRows Ward (replicate 6 nan) 2 3 4) (0 ∷ 0 ∷ 0 ∷ 0 ∷ [])
     ∷ []
 
+-- document 02: "(n³ − n)/6 pairs in all for n ≥ 1", "zero on refusal"
+abbrev counts : List Bool
+counts =
+    eqb (pairsVisited Single 0 []) 0
+    ∷ eqb (pairsVisited Single 1 (nan ∷ [])) 0
+    ∷ eqb (pairsVisited Ward 3 (replicate 9 nan)) 4
+    ∷ eqb (pairsVisited Single 4 lopsided) 10
+    ∷ eqb (pairsOf (childrenAnswer Single lopsided 4 4 6)) 10
+    ∷ eqb (pairsOf (childrenAnswer Single lopsided 4 4 5)) 0
+    ∷ []
+
 abbrev is-linkage : NamedLinkage → ℕ
 is-linkage (linkage.Of Single) = 100
 is-linkage (linkage.Of Complete) = 101
@@ -154,6 +166,6 @@ names =
     ∷ eqb (is-distance (distanceNamed (bytes ""))) 7
     ∷ []
 
-pub figures : all of-scope && all ties && all methods && all calls && all names ≡ true
-unfolding wardF updateF pairBefore near better offer look scanRow scanFrom scanAll both movable moved movedAll merged step copied start stateAt mergeRows childrenTable childrenOutcome childrenRows distanceNamed linkageNamed same lower lowered isWord first overLimit otherLength sizes laid range span minOf maxOf absOf root isqrt lt le eq isNan neg add sum sub mul div round units odd trailingZeros size ieee-span climb ofFields ofBits toBits
+pub figures : all of-scope && all ties && all methods && all calls && all counts && all names ≡ true
+unfolding wardF updateF pairBefore near better offer look scanRow scanFrom scanAll both movable moved movedAll merged step copied start stateAt mergeRows countOne countRow countFrom countAll pairsAt pairsVisited childrenTable childrenOutcome joinedOf childrenAnswer pairsOf childrenRows distanceNamed linkageNamed same lower lowered isWord first overLimit otherLength sizes laid range span minOf maxOf absOf root isqrt lt le eq isNan neg add sum sub mul div round units odd trailingZeros size ieee-span climb ofFields ofBits toBits
 figures = refl

@@ -1,4 +1,4 @@
--- The code keeps 64 slots and the definition n: the n first are all that a step reads, so that the rows are the same. Assumes nothing.
+-- The code keeps 64 slots and the definition n: the n first are all that a step reads, so that the steps are the same. Assumes nothing.
 use Prim.Native.Nat.{ℕ, zero, suc, _+_, _-_, _*_, _≤_, _<_, zero-le}
 use mathlib.Core.Path.{_≡_, refl, sym, ap, ap₂, subst, _∙_}
 use mathlib.Core.Logic.{⊎-elim}
@@ -16,16 +16,16 @@ use Rattle.lent.specs.Range.{range}
 use Rattle.lent.proofs.Laws.{same-or-not, length-tab, getD-tab}
 use Rattle.lent.proofs.Range.{range-none, range-more, range-same}
 use Rattle.linkage.specs.declared.Linkage.{Linkage}
-use Rattle.linkage.specs.declared.Best.{Best}
+use Rattle.pairing.specs.declared.Best.{Best}
 use Rattle.linkage.specs.Merge.{State, nothing, look, scanRow, scanFrom, scanAll, movable, moved, movedAll, merged, step, copied, start, stateAt, mergeRows}
 use Rattle.linkage.specs.Inner.{state, numbered}
 use Rattle.linkage.proofs.Scan.{In, scan-in}
 
 -- two lists of n entries or more, the same in the n first
-record Agree {A : Type 0} (d : A) (n : ℕ) (l m : List A) : Type 0 where
-  long : n ≤ length l
-  wide : n ≤ length m
-  same : (c : ℕ) → c < n → getD l c d ≡ getD m c d
+pub record Agree {A : Type 0} (d : A) (n : ℕ) (l m : List A) : Type 0 where
+  pub long : n ≤ length l
+  pub wide : n ≤ length m
+  pub same : (c : ℕ) → c < n → getD l c d ≡ getD m c d
 
 -- and so after a store
 agree-set : {A : Type 0} (d : A) (n : ℕ) (l m : List A) (i : ℕ) (v w : A) → Agree d n l m → i < n → v ≡ w → Agree d n (set l i v) (set m i w)
@@ -43,12 +43,12 @@ agree-set {A} d n l m i v w a h e =
           (same-or-not c i);
     }
 
-record Front (n : ℕ) (s t : State) : Type 0 where
-  cells : s .cells ≡ t .cells
-  ids : Agree 0 n (s .ids) (t .ids)
-  live : Agree false n (s .live) (t .live)
-  sizes : Agree nan n (s .sizes) (t .sizes)
-  rows : s .rows ≡ t .rows
+pub record Front (n : ℕ) (s t : State) : Type 0 where
+  pub cells : s .cells ≡ t .cells
+  pub ids : Agree 0 n (s .ids) (t .ids)
+  pub live : Agree false n (s .live) (t .live)
+  pub sizes : Agree nan n (s .sizes) (t .sizes)
+  pub rows : s .rows ≡ t .rows
 
 module _ (n : ℕ) (d : List Float) (ids ids′ : List ℕ) (live live′ : List Bool) (p : Agree 0 n ids ids′) (q : Agree false n live live′) where
   look-front : (a b : ℕ) (best : Best) → a < n → b < n → look n d ids live a b best ≡ look n d ids′ live′ a b best
@@ -91,7 +91,7 @@ merged-front l n k s t best h f =
       rows = ap (λ (r : List ℕ). r ++ (best .low .0 ∷ best .high .0 ∷ [])) (f .rows);
     }
 
-step-front : (l : Linkage) (n k : ℕ) (s t : State) → 0 < n → Front n s t → Front n (step l n k s) (step l n k t)
+pub step-front : (l : Linkage) (n k : ℕ) (s t : State) → 0 < n → Front n s t → Front n (step l n k s) (step l n k t)
 unfolding step
 step-front l n k s t h f =
     let best = scanAll n (s .cells) (s .ids) (s .live) in
@@ -101,17 +101,9 @@ step-front l n k s t h f =
     subst (λ (b : Best). Front n (merged l n k s best) (merged l n k t b)) e
     (merged-front l n k s t best (scan-in n (s .cells) (s .ids) (s .live) h) f)
 
-steps-front : (l : Linkage) (n m : ℕ) (s t : State) → m ≤ n → Front n s t → Front n (range (step l n) 0 m s) (range (step l n) 0 m t)
-steps-front l n zero s t h f = rw (range-none (step l n) 0 0 s zero-le, range-none (step l n) 0 0 t zero-le) f
-steps-front l n (suc k) s t h f =
-    let e : (u : State) → range (step l n) 0 (suc k) u ≡ step l n k (range (step l n) 0 k u) =
-    λ u. ap (λ (j : ℕ). range (step l n) 0 j u) (sym (add-one k)) ∙ range-more (step l n) 0 k u zero-le in
-    rw (e s, e t)
-    (step-front l n k (range (step l n) 0 k s) (range (step l n) 0 k t) (omega arith) (steps-front l n k s t (omega arith) f))
-
 -- ---- the start: below k, slot a has the id a
 
-numbered-at : (k : ℕ) → k ≤ 64 → (length (range numbered 0 k (replicate 64 0)) ≡ 64) × ((a : ℕ) → a < k → getD (range numbered 0 k (replicate 64 0)) a 0 ≡ a)
+pub numbered-at : (k : ℕ) → k ≤ 64 → (length (range numbered 0 k (replicate 64 0)) ≡ 64) × ((a : ℕ) → a < k → getD (range numbered 0 k (replicate 64 0)) a 0 ≡ a)
 unfolding numbered
 numbered-at zero h = (ap length (range-none numbered 0 0 (replicate 64 0) zero-le), (λ a l. absurd (no a l)))
   where
@@ -131,9 +123,8 @@ numbered-at (suc k) h =
           (eq-or-lt-of-le (le-of-suc-le-suc l))),
     )
 
--- the code's arrays at the start
-abbrev pub begun : ℕ → List Float → State
-begun n xs = state (range (copied xs) 0 (n * n) (zeros 4096)) (range numbered 0 64 (replicate 64 0)) (replicate 64 true) (replicate 64 unit) []
+agree-own : {A : Type 0} (d : A) (n : ℕ) (l : List A) → n ≤ length l → Agree d n l l
+agree-own d n l h = record { long = h; wide = h; same = λ c k. refl }
 
 agree-all : {A : Type 0} (d v : A) (n : ℕ) → n ≤ 64 → Agree d n (replicate 64 v) (replicate n v)
 agree-all d v n h =
@@ -143,7 +134,9 @@ agree-all d v n h =
       same = λ c k. getD-replicate 64 c v d (omega arith) ∙ sym (getD-replicate n c v d k);
     }
 
-start-front : (n : ℕ) (xs : List Float) → n ≤ 64 → Front n (begun n xs) (start n xs)
+-- the code's arrays at the start
+pub start-front : (n : ℕ) (xs : List Float) → n ≤ 64
+    → Front n (state (range (copied xs) 0 (n * n) (zeros 4096)) (range numbered 0 64 (replicate 64 0)) (replicate n true) (replicate 64 unit) []) (start n xs)
 unfolding start
 start-front n xs h =
     let r = numbered-at 64 (omega arith) in
@@ -154,12 +147,12 @@ start-front n xs h =
         wide = rw (length-tab n (λ k. k)) (omega arith);
         same = λ c k. r .1 c (omega arith) ∙ sym (getD-tab n (λ k. k) c 0 k);
       };
-      live = agree-all false true n h;
+      live = agree-own false n (replicate n true) (rw (length-replicate n true) (omega arith));
       sizes = agree-all nan unit n h;
       rows = refl;
     }
 
--- the rows of the 64 slots are those of the n
-pub rows-front : (l : Linkage) (n : ℕ) (xs : List Float) → n ≤ 64 → range (step l n) 0 (n - 1) (begun n xs) .rows ≡ mergeRows l n xs
-unfolding mergeRows stateAt
-rows-front l n xs h = steps-front l n (n - 1) (begun n xs) (start n xs) (omega arith) (start-front n xs h) .rows
+-- the flags of the second state stand for those of the first
+pub live-front : (n : ℕ) (s t : State) → Front n s t → Front n (state (s .cells) (s .ids) (t .live) (s .sizes) (s .rows)) t
+live-front n s t f =
+    record { cells = f .cells; ids = f .ids; live = agree-own false n (t .live) (f .live .wide); sizes = f .sizes; rows = f .rows }

@@ -1,8 +1,9 @@
 -- What the sizes of a call of `linkage_children` say of its table of refusals, and what a call that is not refused knows. Assumes nothing.
 use Prim.Native.Nat.{ℕ, _-_, _*_, _≤_}
-use mathlib.Core.Path.{_≡_, sym, ap, _∙_}
+use mathlib.Core.Path.{_≡_, refl, sym, ap, _∙_}
 use mathlib.Core.Bool.{not}
 use mathlib.Core.List.{List, [], _∷_}
+use native.Mathlib.Omega.{arith}
 use lib.Dec.{ltb, eqb}
 use lib.ListN.{length}
 use lib.Ieee.{Float}
@@ -13,10 +14,12 @@ use Rattle.refusal.specs.declared.Refusal.the-variants.{DimensionMismatch, Shor
 use Rattle.refusal.specs.declared.Outcome.{Outcome}
 use Rattle.refusal.specs.declared.Outcome.the-variants.{Done, Refused}
 use Rattle.refusal.proofs.Tables.{none, first-done, first-refused, parts-done}
-use Rattle.lent.specs.Lent.{sizes, answerOf}
-use Rattle.lent.specs.declared.Answer.{Answer}
+use Rattle.lent.specs.Lent.{sizes}
 use Rattle.lent.proofs.Sizes.{sized-done}
-use Rattle.linkage.specs.Children.{childrenTable, childrenOutcome, childrenAnswer}
+use Rattle.linkage.specs.Pairs.{pairsVisited}
+use Rattle.linkage.specs.Children.{childrenTable, childrenOutcome, joinedOf, childrenAnswer}
+use Rattle.linkage.specs.declared.Linkage.{Linkage}
+use Rattle.linkage.specs.declared.Joined.the-variants as joined
 
 pub children-refused : (len rows w room : ℕ) (r : Refusal) → first (sizes len rows w) ≡ Refused r → first (childrenTable len rows w room) ≡ Refused r
 unfolding childrenTable
@@ -42,7 +45,21 @@ children-done len rows w room e =
     let q : rows ≡ w = eqb-true rows w (not-false (eqb rows w) (a .1 .0)) in
     record { wide = s .wide; cells = s .cells ∙ ap (λ (k : ℕ). k * w) q; roomy = ltb-false room (2 * (w - 1)) (a .0) }
 
--- the answer, by what the judge and the count of rows said
-pub children-answer : (xs : List Float) (rows w room k : ℕ) (o : Outcome) (r : Answer) → r ≡ answerOf o k 2 → o ≡ first (childrenTable (length xs) rows w room) → k ≡ w - 1 → r ≡ childrenAnswer xs rows w room
-unfolding childrenAnswer childrenOutcome
-children-answer xs rows w room k o r e f g = e ∙ rw (f, g)
+-- what an answer says of how the call went
+made-of : (o : Outcome) (rows pairs k m : ℕ) → joinedOf o rows pairs ≡ joined.Made k m → (o ≡ Done) × (m ≡ pairs)
+unfolding joinedOf
+made-of Done rows pairs k m e = (refl, cc)
+made-of (Refused r) rows pairs k m e = absurd (let z : _≡_ {A = ℕ} 0 1 = cc in omega arith)
+
+refused-of : (o : Outcome) (rows pairs : ℕ) (k : Refusal) → joinedOf o rows pairs ≡ joined.Refused k → o ≡ Refused k
+unfolding joinedOf
+refused-of Done rows pairs k e = absurd (let z : _≡_ {A = ℕ} 0 1 = cc in omega arith)
+refused-of (Refused r) rows pairs k e = cc
+
+pub children-made : (l : Linkage) (xs : List Float) (rows w room k m : ℕ) → childrenAnswer l xs rows w room ≡ joined.Made k m → (childrenOutcome xs rows w room ≡ Done) × (m ≡ pairsVisited l w xs)
+unfolding childrenAnswer
+children-made l xs rows w room k m e = made-of _ _ _ k m e
+
+pub children-refuses : (l : Linkage) (xs : List Float) (rows w room : ℕ) (k : Refusal) → childrenAnswer l xs rows w room ≡ joined.Refused k → childrenOutcome xs rows w room ≡ Refused k
+unfolding childrenAnswer
+children-refuses l xs rows w room k e = refused-of _ _ _ k e

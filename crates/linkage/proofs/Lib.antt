@@ -1,8 +1,10 @@
 pub mod Laws
-pub mod Near
 pub mod Scan
 pub mod Rows
 pub mod Front
+pub mod Packed
+pub mod Counted
+pub mod Stepped
 pub mod Judged
 pub mod Telling
 pub mod Figures

@@ -22,21 +22,19 @@ use Rattle.lent.proofs.Counting.{one-true, one-false, one-le, one-lt, upto-same
 use Rattle.tree.specs.Rows.{isTree}
 use Rattle.tree.proofs.Rows.{IsTree, tree-holds}
 use Rattle.linkage.specs.declared.Linkage.{Linkage}
-use Rattle.linkage.specs.declared.Best.{Best}
+use Rattle.pairing.specs.declared.Best.{Best}
+use Rattle.slots.proofs.Packed.{lives}
 use Rattle.linkage.specs.Merge.{State, scanAll, merged, step, start, stateAt, mergeRows}
 use Rattle.linkage.proofs.Scan.{Good, scan-good}
 
 -- ---- the counts
 
--- slot a is live and has the id v; how many such slots there are, and how many live ones
+-- slot a is live and has the id v; how many such slots there are
 unfoldable pub holds : ℕ → List ℕ → List Bool → ℕ → ℕ
 holds v ids live a = one (getD live a false && eqb v (getD ids a 0))
 
 unfoldable pub held : ℕ → ℕ → List ℕ → List Bool → ℕ
 held n v ids live = upto (holds v ids live) n
-
-unfoldable pub lives : ℕ → List Bool → ℕ
-lives n live = upto (λ a. one (getD live a false)) n
 
 -- two live slots, where the count is at least two
 pub record Two (n : ℕ) (live : List Bool) : Type 0 where
@@ -63,7 +61,7 @@ find-one (suc n) live h =
     record { x = r .x; inside = omega arith; first = r .first })
     (either (getD live n false))
 
-find-two : (n : ℕ) (live : List Bool) → 2 ≤ lives n live → Two n live
+pub find-two : (n : ℕ) (live : List Bool) → 2 ≤ lives n live → Two n live
 unfolding lives upto
 find-two zero live h = absurd (omega arith)
 find-two (suc n) live h =
@@ -102,7 +100,7 @@ died n v ids live b l h vb =
     (λ c k ne. ap (λ (z : Bool). one (z && eqb v (getD ids c 0))) (sym (getD-set-other live b c false false ne))) in
     omega arith
 
-lost : (n : ℕ) (live : List Bool) (b : ℕ) → b < n → n ≤ length live → getD live b false ≡ true → lives n (set live b false) + 1 ≡ lives n live
+pub lost : (n : ℕ) (live : List Bool) (b : ℕ) → b < n → n ≤ length live → getD live b false ≡ true → lives n (set live b false) + 1 ≡ lives n live
 unfolding lives
 lost n live b l h vb =
     let e : getD (set live b false) b false ≡ false = getD-set-same live b false false (omega arith) in

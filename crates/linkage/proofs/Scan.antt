@@ -8,7 +8,7 @@ use lib.ListN.{getD}
 use lib.Ieee.{Float}
 use Rattle.lent.specs.Grid.{cell}
 use Rattle.lent.proofs.Range.{range-keeps, range-hits}
-use Rattle.linkage.specs.declared.Best.{Best}
+use Rattle.pairing.specs.declared.Best.{Best}
 use Rattle.linkage.specs.Merge.{pair, nothing, better, offer, look, scanRow, scanFrom, scanAll}
 
 -- `cond` by the value of its test
@@ -22,7 +22,7 @@ cond-case P false x y p q = q refl
 abbrev pub In : ℕ → Best → Type 0
 In n best = (best .a .0 < n) × (best .b .0 < n)
 
-offer-in : (n a b : ℕ) (x : Float) (p q : ℕ) (best : Best) → a < n → b < n → In n best → In n (offer a b x p q best)
+pub offer-in : (n a b : ℕ) (x : Float) (p q : ℕ) (best : Best) → a < n → b < n → In n best → In n (offer a b x p q best)
 unfolding offer
 offer-in n a b x p q best ha hb h =
     cond-case (In n) (better best x (min p q) (max p q)) (pair a b x (min p q) (max p q)) best
@@ -44,10 +44,6 @@ module _ (n : ℕ) (d : List Float) (ids : List ℕ) (live : List Bool) where
   pub scan-in : 0 < n → In n (scanAll n d ids live)
   unfolding scanAll
   scan-in h = range-keeps (In n) (scanFrom n d ids live) 0 n nothing (h, h) (λ i t l r p. from-in i t r p)
-
--- the same of what a scan gave
-pub scanned-in : (n : ℕ) (d : List Float) (ids : List ℕ) (live : List Bool) (best : Best) → best ≡ scanAll n d ids live → 0 < n → In n best
-scanned-in n d ids live best e h = subst (In n) (sym e) (scan-in n d ids live h)
 
 -- ---- the pair
 

@@ -1,10 +1,12 @@
--- What a name tells: 0 and the distance or linkage of that name, else 7 or 8. Assumes nothing.
+-- What a name tells: 0 and the distance or linkage of that name, else 7 or 8; and what the merge step tells. Assumes nothing.
 use Prim.Native.Nat.{ℕ}
 use mathlib.Core.Path.{_≡_, refl}
 use mathlib.Core.Bool.{Bool, true, false, cond}
 use mathlib.Core.List.{List}
 use Rattle.text.specs.Bytes.{bytes, isWord}
-use Rattle.refusal.specs.Telling.{accepts, refuses}
+use Rattle.refusal.specs.Telling.{accepts, refuses, tells}
+use Rattle.refusal.specs.declared.Outcome.{Outcome}
+use Rattle.refusal.specs.declared.Outcome.the-variants.{Done, Refused}
 use Rattle.refusal.specs.declared.Refusal.the-variants.{UnknownDistance, UnknownLinkage}
 use Rattle.linkage.specs.declared.Distance.the-variants.{Correlation, DistanceOfDistances}
 use Rattle.linkage.specs.declared.Linkage.the-variants.{Single, Complete, Average, Ward}
@@ -12,6 +14,7 @@ use Rattle.linkage.specs.declared.NamedDistance.{NamedDistance}
 use Rattle.linkage.specs.declared.NamedDistance.the-variants as distance
 use Rattle.linkage.specs.declared.NamedLinkage.{NamedLinkage}
 use Rattle.linkage.specs.declared.NamedLinkage.the-variants as linkage
+use Rattle.linkage.specs.Children.{joinedOf, joinedTells}
 use Rattle.linkage.specs.Names.{distanceNamed, linkageNamed, distanceTells, linkageTells}
 
 -- what is picked by a test tells what each of the two does
@@ -44,3 +47,9 @@ linkage-tells name =
       told-linkage (isWord name (bytes "average")) _ _,
       told-linkage (isWord name (bytes "ward")) _ _,
     )
+
+-- the rows made and the pairs looked at, or the refusal
+pub joined-tells : (o : Outcome) (rows pairs : ℕ) → joinedTells (joinedOf o rows pairs) ≡ tells o (rows, pairs)
+unfolding joinedOf
+joined-tells Done rows pairs = refl
+joined-tells (Refused r) rows pairs = refl

@@ -1,4 +1,5 @@
 pub mod Names
 pub mod Merge
+pub mod Pairs
 pub mod Children
 pub mod Inner

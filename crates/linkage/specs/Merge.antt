@@ -1,22 +1,20 @@
 -- Document 01, "Tree and leaf order": the merge step. Definitions only.
-use Prim.Native.Nat.{ℕ, _+_, _-_, _*_, min, max}
-use mathlib.Core.Bool.{Bool, true, false, not, _&&_, _||_, cond}
+use Prim.Native.Nat.{ℕ, _+_, _-_, _*_}
+use mathlib.Core.Bool.{Bool, true, false, not, _&&_, cond}
 use mathlib.Core.List.{List, [], _∷_, _++_}
 use lib.ListN.{getD, set, replicate}
-use lib.Dec.{ltb, eqb}
-use lib.Ieee.{Float, nan, binary64, add, sub, mul, div, lt, le, ofBits}
+use lib.Dec.{eqb}
+use lib.Ieee.{Float, nan, binary64, add, sub, mul, div}
 use Rattle.arithmetic.specs.Constants.{pz, unit}
-use Rattle.arithmetic.specs.Arithmetic.{minOf, maxOf, absOf}
+use Rattle.arithmetic.specs.Arithmetic.{minOf, maxOf}
 use Rattle.arithmetic.specs.Root.{root}
 use Rattle.lent.specs.Grid.{cell, tab, zeros}
 use Rattle.lent.specs.Range.{range}
 use Rattle.linkage.specs.declared.Linkage.{Linkage}
 use Rattle.linkage.specs.declared.Linkage.the-variants.{Single, Complete, Average, Ward}
-use Rattle.linkage.specs.declared.Best.{Best}
-
--- 1e-12
-abbrev pub eps : Float
-eps = ofBits binary64 0x3d71_9799_812d_ea11
+use Rattle.pairing.specs.declared.Best.{Best}
+pub use Rattle.pairing.specs.Pairing.{eps, pair, nothing}
+unfoldable pub use Rattle.pairing.specs.Pairing.{pairBefore, near, better, offer}
 
 -- ---- "by `Linkage::update` in `linkage.rs` and in its order of operations"
 
@@ -37,35 +35,6 @@ updateF Average dxi dyi dxy nx ny ni = div binary64 (add binary64 (mul binary64 
 updateF Ward dxi dyi dxy nx ny ni = wardF dxi dyi dxy nx ny ni (div binary64 unit (add binary64 (add binary64 nx ny) ni))
 
 -- ---- the scan
-
--- (p, q) comes before (r, s)
-unfoldable pub pairBefore : ℕ → ℕ → ℕ → ℕ → Bool
-pairBefore p q r s = ltb p r || (eqb p r && ltb q s)
-
--- "the double |difference| is ≤ 1e-12 (never for NaN or two infinities)"
-unfoldable pub near : Float → Float → Bool
-near x y = le (absOf (sub binary64 x y)) eps
-
--- "The first pair is best; a later pair replaces it if its distance + 1e-12 is below the best's, or if the double |difference| is ≤ 1e-12 .. and its (smaller id, larger id) comes first."
-unfoldable pub better : Best → Float → ℕ → ℕ → Bool
-better best x lo hi =
-    not (best .found)
-    || (lt (add binary64 x eps) (best .dist)
-    || (near x (best .dist) && pairBefore lo hi (best .low .0) (best .high .0)))
-
-abbrev pub pair : ℕ → ℕ → Float → ℕ → ℕ → Best
-pair a b x lo hi =
-    record { found = true; a = record { 0 = a }; b = record { 0 = b }; dist = x; low = record { 0 = lo }; high = record { 0 = hi } }
-
--- no pair yet
-abbrev pub nothing : Best
-nothing =
-    record { found = false; a = record { 0 = 0 }; b = record { 0 = 0 }; dist = pz; low = record { 0 = 0 }; high = record { 0 = 0 } }
-
--- the best after the pair of slots a, b at distance x, with ids p and q: "its (smaller id, larger id)"
-unfoldable pub offer : ℕ → ℕ → Float → ℕ → ℕ → Best → Best
-offer a b x p q best =
-    cond (better best x (min p q) (max p q)) (pair a b x (min p q) (max p q)) best
 
 -- "Each of n − 1 steps scans live slots a < b in order.": the pair (a, b), where b is live
 unfoldable pub look : ℕ → List Float → List ℕ → List Bool → ℕ → ℕ → Best → Best

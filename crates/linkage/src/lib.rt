@@ -1,24 +1,27 @@
 // The merge step: from a matrix of distances to merge rows.
 
-use lent::Answer;
+use pairing::Best;
+use pairing::Slot;
 use refusal::Outcome;
 use refusal::Refusal;
 use tree::Asset;
 use tree::Node;
-ghost use mathlib.Core.List.{[], _∷_, _++_};
+ghost use mathlib.Core.List.{List, [], _∷_, _++_};
 ghost use mathlib.Core.Path.{_≡_};
-ghost use Prim.Native.Nat.{_+_, _-_, _*_, _<_, _≤_, min, max};
-ghost use lib.ListN.{length, take, drop};
+ghost use mathlib.Core.Bool.{Bool};
+ghost use Prim.Native.Nat.{_+_, _-_, _*_, _<_, _≤_};
+ghost use lib.ListN.{length, take, drop, replicate, getD};
+ghost use lib.Ieee.{Float};
+ghost use Rattle.arithmetic.specs.Constants.{unit};
 ghost use Rattle.refusal.specs.Table.{first};
-ghost use Rattle.lent.specs.Grid.{cell, over};
+ghost use Rattle.lent.specs.Grid.{cell, over, zeros};
 ghost use Rattle.lent.specs.Range.{range};
+ghost use Rattle.slots.specs.Inner.{packed, Below};
 ghost use Rattle.linkage.specs.Names.{distanceNamed, linkageNamed};
-ghost use Rattle.linkage.specs.Merge.{near, pairBefore, better, offer, scanRow, scanAll, wardF, updateF, both, moved, movedAll, step, copied, mergeRows};
-ghost use Rattle.linkage.specs.Inner.{state, numbered};
+ghost use Rattle.linkage.specs.Merge.{wardF, updateF, both, step, copied, mergeRows};
+ghost use Rattle.linkage.specs.Pairs.{pairsVisited};
+ghost use Rattle.linkage.specs.Inner.{state, numbered, meet, meetAll, met, drawn, drawnAt, Stands};
 ghost use Rattle.linkage.specs.Children.{childrenTable, childrenAnswer, childrenRows};
-
-// Distances no farther apart than this are a tie.
-const EPS: f64 = 1e-12;
 
 pub enum Distance {
     Correlation,
@@ -42,17 +45,16 @@ pub enum NamedLinkage {
     Refused(Refusal),
 }
 
-// A place of the working matrix, where a cluster stands: never read as a node's id.
-pub struct Slot(pub usize);
+// The merge rows made, and the pairs of slots looked at for them.
+pub enum Joined {
+    Made { rows: usize, pairs: usize },
+    Refused(Refusal),
+}
 
-// The best pair so far: its slots, its distance, and its ids, the smaller first.
-pub struct Best {
-    pub found: bool,
-    pub a: Slot,
-    pub b: Slot,
-    pub dist: f64,
-    pub low: Node,
-    pub high: Node,
+// The best of the pairs looked at, and how many they are.
+struct Looked {
+    best: Best,
+    pairs: usize,
 }
 
 pub fn distance_named(name: &[u8]) -> NamedDistance
@@ -109,72 +111,6 @@ impl Linkage {
     }
 }
 
-// Never for NaN or two infinities, whose difference is NaN. Two comparisons are quicker than the absolute value.
-fn is_near(x: f64, y: f64) -> bool
-    ensures { λ r. ⌜ r ≡ near x y ⌝ }
-{
-    let z = x - y;
-    -EPS <= z && z <= EPS
-}
-
-// (p, q) comes before (r, s).
-fn comes_before(p: Node, q: Node, r: Node, s: Node) -> bool
-    ensures { λ z. ⌜ z ≡ pairBefore (p .0) (q .0) (r .0) (s .0) ⌝ }
-{
-    if p.0 < r.0 {
-        return true;
-    }
-    if p.0 == r.0 {
-        return q.0 < s.0;
-    }
-    false
-}
-
-fn smaller(p: Node, q: Node) -> Node
-    ensures { λ r. ⌜ r .0 ≡ min (p .0) (q .0) ⌝ }
-{
-    if q.0 < p.0 { q } else { p }
-}
-
-fn larger(p: Node, q: Node) -> Node
-    ensures { λ r. ⌜ r .0 ≡ max (p .0) (q .0) ⌝ }
-{
-    if q.0 < p.0 { p } else { q }
-}
-
-// A pair of ids p and q at distance x replaces the best. The ids are put in order for a tie alone.
-fn is_better(best: Best, x: f64, p: Node, q: Node) -> bool
-    ensures { λ r. ⌜ r ≡ better best x (min (p .0) (q .0)) (max (p .0) (q .0)) ⌝ }
-{
-    if !best.found {
-        return true;
-    }
-    if x + EPS < best.dist {
-        return true;
-    }
-    if is_near(x, best.dist) {
-        return comes_before(smaller(p, q), larger(p, q), best.low, best.high);
-    }
-    false
-}
-
-// The best after the pair of slots a, b at distance x, with ids p and q.
-fn offered(a: Slot, b: Slot, x: f64, p: Node, q: Node, best: Best) -> Best
-    ensures { λ r. ⌜ r ≡ offer (a .0) (b .0) x (p .0) (q .0) best ⌝ }
-{
-    if is_better(best, x, p, q) {
-        return Best {
-            found: true,
-            a: a,
-            b: b,
-            dist: x,
-            low: smaller(p, q),
-            high: larger(p, q),
-        };
-    }
-    best
-}
-
 fn at(d: &[f64; 4096], n: usize, r: usize, c: usize) -> f64
     requires { ⌜ (n ≤ 64) × (r < n) × (c < n) ⌝ }
     ensures { λ x. ⌜ x ≡ cell (now (d .entry)) n r c ⌝ }
@@ -182,46 +118,50 @@ fn at(d: &[f64; 4096], n: usize, r: usize, c: usize) -> f64
     d[r * n + c]
 }
 
+// The pairs of the slot at place i with those at places `from` to m - 1.
 fn scan_row(
     n: usize,
     d: &[f64; 4096],
     ids: &[usize; 64],
-    live: &[bool; 64],
-    a: Slot,
+    slots: &[usize; 64],
+    m: usize,
+    i: usize,
+    from: usize,
     first: Best,
-) -> Best
-    requires { ⌜ (n ≤ 64) × (a .0 < n) ⌝ }
-    ensures { λ r. ⌜ r ≡ scanRow n (now (d .entry)) (now (ids .entry)) (now (live .entry)) (a .0) first ⌝ }
+) -> Looked
+    requires { ⌜ (n ≤ 64) × (m ≤ 64) × (i < m) × (from ≤ m) × Below n m (now slots) ⌝ }
+    ensures { λ r. ⌜ (r .best ≡ range (meet n (now (d .entry)) (now (ids .entry)) (now (slots .entry)) (getD (now (slots .entry)) i 0)) from m first)
+        × (r .pairs + from ≡ m) ⌝ }
 {
-    let i = a.0;
-    let p = Node(ids[i]);
+    let a = slots[i];
+    let p = Node(ids[a]);
     let mut best = first;
-    for b in i + 1..n {
-        if live[b] {
-            best = offered(a, Slot(b), at(d, n, i, b), p, Node(ids[b]), best);
-        }
+    let mut seen = 0usize;
+    for j in from..m {
+        let b = slots[j];
+        best = pairing::offered(Slot(a), Slot(b), at(d, n, a, b), p, Node(ids[b]), best);
+        seen = seen + 1;
     }
-    best
+    Looked { best, pairs: seen }
 }
 
-fn scan_all(n: usize, d: &[f64; 4096], ids: &[usize; 64], live: &[bool; 64]) -> Best
-    requires { ⌜ n ≤ 64 ⌝ }
-    ensures { λ r. ⌜ r ≡ scanAll n (now (d .entry)) (now (ids .entry)) (now (live .entry)) ⌝ }
+// The pairs of the slots at m places, in order. The first is taken before the rows, so that no row asks whether there is a best.
+fn scan_all(n: usize, d: &[f64; 4096], ids: &[usize; 64], slots: &[usize; 64], m: usize) -> Looked
+    requires { ⌜ (n ≤ 64) × (2 ≤ m) × (m ≤ 64) × Below n m (now slots) ⌝ }
+    ensures { λ r. ⌜ (r .best ≡ meetAll n (now (d .entry)) (now (ids .entry)) (now (slots .entry)) m) × (r .pairs ≡ met m m) ⌝ }
 {
-    let mut best = Best {
-        found: false,
-        a: Slot(0),
-        b: Slot(0),
-        dist: 0.0,
-        low: Node(0),
-        high: Node(0),
-    };
-    for a in 0..n {
-        if live[a] {
-            best = scan_row(n, d, ids, live, Slot(a), best);
-        }
+    let a = slots[0];
+    let b = slots[1];
+    let mut best = pairing::paired(Slot(a), Slot(b), at(d, n, a, b), Node(ids[a]), Node(ids[b]));
+    let mut pairs = 1;
+    let mut from = 2;
+    for i in 0..m {
+        let row = scan_row(n, d, ids, slots, m, i, from, best);
+        best = row.best;
+        pairs = pairs + row.pairs;
+        from = i + 2;
     }
-    best
+    Looked { best, pairs }
 }
 
 // The distance between slots x and i, in both cells.
@@ -238,31 +178,28 @@ fn move_one(
     n: usize,
     d: &mut [f64; 4096],
     sizes: &[f64; 64],
-    live: &[bool; 64],
     x: Slot,
     y: Slot,
     d_xy: f64,
     other: Slot,
 )
     requires { ⌜ (n ≤ 64) × (x .0 < n) × (y .0 < n) × (other .0 < n) ⌝ }
-    ensures { λ _. ⌜ now (d .exit) ≡ moved method n (now (sizes .entry)) (now (live .entry)) (x .0) (y .0) «d_xy» (other .0) (now (d .entry)) ⌝ }
+    ensures { λ _. ⌜ now (d .exit) ≡ drawn method n (now (sizes .entry)) (x .0) (y .0) «d_xy» (other .0) (now (d .entry)) ⌝ }
 {
     let p = x.0;
     let q = y.0;
     let i = other.0;
-    if live[i] {
-        if i != p {
-            if i != q {
-                let v = method.update(
-                    at(d, n, p, i),
-                    at(d, n, q, i),
-                    d_xy,
-                    sizes[p],
-                    sizes[q],
-                    sizes[i],
-                );
-                put_both(d, n, p, i, v);
-            }
+    if i != p {
+        if i != q {
+            let v = method.update(
+                at(d, n, p, i),
+                at(d, n, q, i),
+                d_xy,
+                sizes[p],
+                sizes[q],
+                sizes[i],
+            );
+            put_both(d, n, p, i, v);
         }
     }
 }
@@ -272,16 +209,17 @@ fn move_all(
     n: usize,
     d: &mut [f64; 4096],
     sizes: &[f64; 64],
-    live: &[bool; 64],
+    slots: &[usize; 64],
+    m: usize,
     x: Slot,
     y: Slot,
     d_xy: f64,
 )
-    requires { ⌜ (n ≤ 64) × (x .0 < n) × (y .0 < n) ⌝ }
-    ensures { λ _. ⌜ now (d .exit) ≡ movedAll method n (now (sizes .entry)) (now (live .entry)) (x .0) (y .0) «d_xy» (now (d .entry)) ⌝ }
+    requires { ⌜ (n ≤ 64) × (m ≤ 64) × (x .0 < n) × (y .0 < n) × Below n m (now slots) ⌝ }
+    ensures { λ _. ⌜ now (d .exit) ≡ range (drawnAt method n (now (sizes .entry)) (now (slots .entry)) (x .0) (y .0) «d_xy») 0 m (now (d .entry)) ⌝ }
 {
-    for i in 0..n {
-        move_one(method, n, d, sizes, live, x, y, d_xy, Slot(i));
+    for j in 0..m {
+        move_one(method, n, d, sizes, x, y, d_xy, Slot(slots[j]));
     }
 }
 
@@ -295,54 +233,40 @@ fn put_row(rows: &mut [usize], k: usize, lo: Node, hi: Node)
     rows[2 * k + 1] = hi.0;
 }
 
-// Row k: the best pair is merged. Rows 0 to k - 1 stand in the first 2k entries.
+// Row k: the best pair of the slots at m places is merged. Rows 0 to k - 1 stand in the first 2k entries. The answer is the pairs looked at.
 fn step_once(
     method: Linkage,
     n: usize,
     k: usize,
+    m: usize,
     d: &mut [f64; 4096],
     ids: &mut [usize; 64],
-    live: &mut [bool; 64],
+    slots: &mut [usize; 64],
     sizes: &mut [f64; 64],
     rows: &mut [usize],
-)
-    requires { ⌜ (n ≤ 64) × (k < n) × (2 * k + 1 < length (now rows)) ⌝ }
-    ensures { λ _. ⌜ (state (now (d .exit)) (now (ids .exit)) (now (live .exit)) (now (sizes .exit)) (take (2 * (k + 1)) (now (rows .exit)))
-        ≡ step method n k (state (now (d .entry)) (now (ids .entry)) (now (live .entry)) (now (sizes .entry)) (take (2 * k) (now (rows .entry)))))
-        × (drop (2 * (k + 1)) (now (rows .exit)) ≡ drop (2 * (k + 1)) (now (rows .entry))) ⌝ }
+) -> usize
+    requires { ⌜ (n ≤ 64) × (k < n) × (2 ≤ m) × (m ≤ 64) × Below n m (now slots) × (length (now slots) ≡ 64)
+        × (2 * k + 1 < length (now rows)) ⌝ }
+    ensures { λ r. ⌜ ((live : List Bool) → n ≤ length live → take m (now (slots .entry)) ≡ packed n live
+        → Stands n (step method n k (state (now (d .entry)) (now (ids .entry)) live (now (sizes .entry)) (take (2 * k) (now (rows .entry)))))
+        (now (d .exit)) (now (ids .exit)) (take (m - 1) (now (slots .exit))) (now (sizes .exit)) (take (2 * (k + 1)) (now (rows .exit))))
+        × (drop (2 * (k + 1)) (now (rows .exit)) ≡ drop (2 * (k + 1)) (now (rows .entry)))
+        × (length (now (slots .exit)) ≡ 64)
+        × (r ≡ met m m) ⌝ }
 {
-    let best = scan_all(n, d, ids, live);
+    let looked = scan_all(n, d, ids, slots, m);
+    let best = looked.best;
     let x = best.a;
     let y = best.b;
-    move_all(method, n, d, sizes, live, x, y, best.dist);
+    move_all(method, n, d, sizes, slots, m, x, y, best.dist);
     let p = x.0;
     let q = y.0;
     let merged = Node(n + k);
     ids[p] = merged.0;
-    live[q] = false;
     sizes[p] = sizes[p] + sizes[q];
+    slots::close_gap(slots, m, q);
     put_row(rows, k, best.low, best.high);
-}
-
-// Rows 0 to m - 1.
-fn steps(
-    method: Linkage,
-    n: usize,
-    m: usize,
-    d: &mut [f64; 4096],
-    ids: &mut [usize; 64],
-    live: &mut [bool; 64],
-    sizes: &mut [f64; 64],
-    rows: &mut [usize],
-)
-    requires { ⌜ (n ≤ 64) × (m ≤ n) × (2 * m ≤ length (now rows)) ⌝ }
-    ensures { λ _. ⌜ (state (now (d .exit)) (now (ids .exit)) (now (live .exit)) (now (sizes .exit)) (take (2 * m) (now (rows .exit)))
-        ≡ range (step method n) 0 m (state (now (d .entry)) (now (ids .entry)) (now (live .entry)) (now (sizes .entry)) []))
-        × (drop (2 * m) (now (rows .exit)) ≡ drop (2 * m) (now (rows .entry))) ⌝ }
-{
-    for k in 0..m {
-        step_once(method, n, k, d, ids, live, sizes, rows);
-    }
+    looked.pairs
 }
 
 // The caller's cells, copied to the front.
@@ -379,27 +303,52 @@ fn merges(n: usize) -> usize
     if n == 0 { 0 } else { n - 1 }
 }
 
-// The merge rows of n assets over the front of rows.
-fn merge_rows(method: Linkage, n: usize, xs: &[f64], rows: &mut [usize])
+// The n - 1 steps, from arrays that are all zero and sizes that are all 1. The answer is the pairs looked at.
+fn steps(
+    method: Linkage,
+    n: usize,
+    xs: &[f64],
+    d: &mut [f64; 4096],
+    ids: &mut [usize; 64],
+    slots: &mut [usize; 64],
+    sizes: &mut [f64; 64],
+    rows: &mut [usize],
+) -> usize
+    requires { ⌜ (n ≤ 64) × (length (now xs) ≡ n * n) × (2 * (n - 1) ≤ length (now rows)) × (now d ≡ zeros 4096) × (now ids ≡ replicate 64 0)
+        × (now slots ≡ replicate 64 0) × (now sizes ≡ replicate 64 unit) ⌝ }
+    ensures { λ r. ⌜ (take (2 * (n - 1)) (now (rows .exit)) ≡ mergeRows method n (now (xs .entry)))
+        × (drop (2 * (n - 1)) (now (rows .exit)) ≡ drop (2 * (n - 1)) (now (rows .entry)))
+        × (r ≡ pairsVisited method n (now (xs .entry))) ⌝ }
+{
+    fill(xs, d, n * n);
+    number(ids);
+    number(slots);
+    let mut pairs = 0;
+    for k in 0..merges(n) {
+        pairs = pairs + step_once(method, n, k, n - k, d, ids, slots, sizes, rows);
+    }
+    pairs
+}
+
+// The merge rows of n assets over the front of rows. The answer is the pairs looked at.
+fn merge_rows(method: Linkage, n: usize, xs: &[f64], rows: &mut [usize]) -> usize
     requires { ⌜ (n ≤ 64) × (length (now xs) ≡ n * n) × (2 * (n - 1) ≤ length (now rows)) ⌝ }
-    ensures { λ _. ⌜ now (rows .exit) ≡ over (mergeRows method n (now (xs .entry))) (now (rows .entry)) ⌝ }
+    ensures { λ r. ⌜ (now (rows .exit) ≡ over (mergeRows method n (now (xs .entry))) (now (rows .entry))) × (r ≡ pairsVisited method n (now (xs .entry))) ⌝ }
 {
     let mut d = [0.0; 4096];
     let mut ids = [0usize; 64];
-    let mut live = [true; 64];
+    let mut slots = [0usize; 64];
     let mut sizes = [1.0; 64];
-    fill(xs, &mut d, n * n);
-    number(&mut ids);
     steps(
         method,
         n,
-        merges(n),
+        xs,
         &mut d,
         &mut ids,
-        &mut live,
+        &mut slots,
         &mut sizes,
         rows,
-    );
+    )
 }
 
 fn judge(len: usize, rows: usize, columns: usize, room: usize) -> Outcome
@@ -413,23 +362,27 @@ fn judge(len: usize, rows: usize, columns: usize, room: usize) -> Outcome
     refusal::refuse(room < 2 * merges(columns), Refusal::ShortBuffer, rest)
 }
 
-// Row k holds the ids of the two nodes that are merged into node n + k, the smaller first.
+// Row k holds the ids of the two nodes that are merged into node n + k, the smaller first. The answer is the rows made and the pairs looked at.
 pub fn linkage_children(
     distance: &[f64],
     rows: usize,
     columns: usize,
     method: Linkage,
     out: &mut [usize],
-) -> Answer
-    ensures { λ r. ⌜ r ≡ childrenAnswer (now (distance .entry)) rows columns (length (now (out .entry))) ⌝ }
+) -> Joined
+    ensures { λ r. ⌜ r ≡ childrenAnswer method (now (distance .entry)) rows columns (length (now (out .entry))) ⌝ }
     ensures { λ r. ⌜ now (out .exit) ≡ childrenRows method (now (distance .entry)) rows columns (length (now (out .entry))) ⌝ }
 {
     let said = judge(distance.len(), rows, columns, out.len());
-    let made = merges(columns);
     lent::clear_numbers(out);
-    let Outcome::Done = said else {
-        return lent::answered(said, made, 2);
-    };
-    merge_rows(method, columns, distance, out);
-    lent::answered(said, made, 2)
+    match said {
+        Outcome::Done => {
+            let pairs = merge_rows(method, columns, distance, out);
+            Joined::Made {
+                rows: merges(columns),
+                pairs,
+            }
+        }
+        Outcome::Refused(r) => Joined::Refused(r),
+    }
 }

@@ -1,12 +1,9 @@
 -- `linkage::move_one` meets its contract. Assumes nothing.
 use borrow.Author.Tests.{eq-eqb, ne-eqb}
-use Rattle.linkage.specs.Merge.{moved, movable}
+use Rattle.linkage.specs.Inner.{drawn}
 use borrow.Author.Needs.{needs}
 use Rattle.linkage.proofs.move_one.Statement.{statement}
 use Rattle.linkage.proofs.move_one.Tie as tie
-
-element-copy-out-if1 : tie.Need-element-copy-out-if1
-element-copy-out-if1 c = search needs
 
 at-requires : tie.Need-at-requires
 at-requires c κs = search needs
@@ -39,30 +36,21 @@ put-both-requires : tie.Need-put-both-requires
 put-both-requires c κs = search needs
 
 returns : tie.Need-returns
-unfolding moved movable
-returns c =
-    let u = c .before .before in
-    let e = u .before .before .before .before in
-    let t = e .before .before .before .before in
-    rw (t .before .before .if1 .taken, ne-eqb _ _ (t .before .if2 .taken), ne-eqb _ _ (t .if3 .taken), ← e .before .before .at .ensures, ← e .at2 .ensures, ← u .update .ensures) (c .put-both .ensures)
+unfolding drawn
+returns c = rw (ne-eqb _ _ (c .before .before .before .before .before .before .before .before .before .before .before .if1 .taken), ne-eqb _ _ (c .before .before .before .before .before .before .before .before .before .before .if2 .taken), ← c .before .before .before .before .before .before .before .before .at .ensures, ← c .before .before .before .before .before .before .at2 .ensures, ← c .before .before .update .ensures) (c .put-both .ensures)
 
 returns-2 : tie.Need-returns-2
-unfolding moved movable
-returns-2 c = rw (c .before .before .if1 .taken, ne-eqb _ _ (c .before .if2 .taken), eq-eqb _ _ (c .if3 .left))
+unfolding drawn
+returns-2 c = rw (ne-eqb _ _ (c .before .if1 .taken), eq-eqb _ _ (c .if2 .left))
 
 returns-3 : tie.Need-returns-3
-unfolding moved movable
-returns-3 c = rw (c .before .if1 .taken, eq-eqb _ _ (c .if2 .left))
-
-returns-4 : tie.Need-returns-4
-unfolding moved movable
-returns-4 c = rw (c .if1 .left)
+unfolding drawn
+returns-3 c = rw (eq-eqb _ _ (c .if1 .left))
 
 pub move-one-spec : {M : Type 1} → statement M
 move-one-spec =
     tie.close
     (tie.spec
-    element-copy-out-if1
     at-requires
     at-requires-2
     mul-update
@@ -75,5 +63,4 @@ move-one-spec =
     put-both-requires
     returns
     returns-2
-    returns-3
-    returns-4)
+    returns-3)

@@ -10,7 +10,7 @@ use native.Mathlib.Nat.{mul-pos, zero-lt-suc}
 use lib.Ieee.Fits.{up-pos, down-pos}
 use lib.Ieee.{below, level, Float, nan, inf, fin, binary64, up, down, neg, sub, ofBits, lt, eq, le}
 use Rattle.arithmetic.specs.Arithmetic.{absOf}
-use Rattle.linkage.specs.Merge.{near, eps}
+use Rattle.pairing.specs.Pairing.{near, eps}
 
 eqb-comm : (a b : ℕ) → eqb a b ≡ eqb b a
 eqb-comm zero zero = refl

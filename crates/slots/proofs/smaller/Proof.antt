@@ -1,9 +1,9 @@
--- `linkage::smaller` meets its contract. Assumes nothing.
+-- `slots::smaller` meets its contract. Assumes nothing.
 use mathlib.Core.Path.{sym}
 use native.Mathlib.Omega.{arith}
-use native.Mathlib.Nat.{min-eq-left, min-eq-right, max-eq-left, max-eq-right}
-use Rattle.linkage.proofs.smaller.Statement.{statement}
-use Rattle.linkage.proofs.smaller.Tie as tie
+use native.Mathlib.Nat.{min-eq-left, min-eq-right}
+use Rattle.slots.proofs.smaller.Statement.{statement}
+use Rattle.slots.proofs.smaller.Tie as tie
 
 returns : tie.Need-returns
 returns c = sym (min-eq-right (omega (arith, c .if1 .taken)))

@@ -1,10 +1,10 @@
--- `linkage::is_better` meets its contract. Assumes nothing.
+-- `pairing::is_better` meets its contract. Assumes nothing.
 use borrow.Author.Needs.{needs}
-use Rattle.linkage.specs.Merge.{better, near}
+use Rattle.pairing.specs.Pairing.{better, near}
 use mathlib.Core.Path.{_≡_, sym, _∙_}
 use mathlib.Core.Bool.{true, false}
-use Rattle.linkage.proofs.is_better.Statement.{statement}
-use Rattle.linkage.proofs.is_better.Tie as tie
+use Rattle.pairing.proofs.is_better.Statement.{statement}
+use Rattle.pairing.proofs.is_better.Tie as tie
 
 returns : tie.Need-returns
 unfolding better

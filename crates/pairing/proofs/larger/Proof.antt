@@ -1,9 +1,9 @@
--- `linkage::larger` meets its contract. Assumes nothing.
+-- `pairing::larger` meets its contract. Assumes nothing.
 use mathlib.Core.Path.{sym}
 use native.Mathlib.Omega.{arith}
 use native.Mathlib.Nat.{min-eq-left, min-eq-right, max-eq-left, max-eq-right}
-use Rattle.linkage.proofs.larger.Statement.{statement}
-use Rattle.linkage.proofs.larger.Tie as tie
+use Rattle.pairing.proofs.larger.Statement.{statement}
+use Rattle.pairing.proofs.larger.Tie as tie
 
 returns : tie.Need-returns
 returns c = sym (max-eq-left (omega (arith, c .if1 .taken)))

@@ -1,8 +1,8 @@
--- `linkage::comes_before` meets its contract. Assumes nothing.
+-- `pairing::comes_before` meets its contract. Assumes nothing.
 use borrow.Author.Tests.{lt-ltb, le-ltb, eq-eqb, ne-eqb}
-use Rattle.linkage.specs.Merge.{pairBefore}
-use Rattle.linkage.proofs.comes_before.Statement.{statement}
-use Rattle.linkage.proofs.comes_before.Tie as tie
+use Rattle.pairing.specs.Pairing.{pairBefore}
+use Rattle.pairing.proofs.comes_before.Statement.{statement}
+use Rattle.pairing.proofs.comes_before.Tie as tie
 
 returns : tie.Need-returns
 unfolding pairBefore

@@ -1,7 +1,7 @@
--- `linkage::is_near` meets its contract. Assumes nothing.
-use Rattle.linkage.proofs.Near.{near-is}
-use Rattle.linkage.proofs.is_near.Statement.{statement}
-use Rattle.linkage.proofs.is_near.Tie as tie
+-- `pairing::is_near` meets its contract. Assumes nothing.
+use Rattle.pairing.proofs.Near.{near-is}
+use Rattle.pairing.proofs.is_near.Statement.{statement}
+use Rattle.pairing.proofs.is_near.Tie as tie
 
 returns : tie.Need-returns
 returns c = rw (near-is (c .before .args .x) (c .before .args .y), c .if1 .taken)
