@@ -68,10 +68,12 @@ uint8_t rovignesc_hcaa(size_t assets,
 uint8_t rovignesc_covariance(const double *returns, size_t returns_len, size_t returns_rows, size_t returns_columns,
                              double *covariance, size_t covariance_len);
 
-/* The merge step: the rows of the tree of a matrix of distances, two numbers each. */
+/* The merge step: the rows of the tree of a matrix of distances, two numbers each. pairs has room for one number (else 11): how many pairs of slots were
+   looked at, (n^3 - n) / 6 of n assets, n at least 1; zero after a refusal. */
 uint8_t rovignesc_linkage_children(const double *distances, size_t distances_len, size_t distances_rows, size_t distances_columns,
                                    const uint8_t *linkage, size_t linkage_len,
-                                   size_t *rows, size_t rows_len);
+                                   size_t *rows, size_t rows_len,
+                                   size_t *pairs, size_t pairs_len);
 
 /* The leaf order: the leaves under a node of the tree of given merge rows. leaves has room for one number (else 11): how many there are. */
 uint8_t rovignesc_quasi_diagonalization(const size_t *rows, size_t rows_len, size_t assets, size_t node,

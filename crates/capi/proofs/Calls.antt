@@ -15,7 +15,7 @@ use Rattle.refusal.specs.declared.Refusal.{Refusal}
 use Rattle.refusal.specs.declared.Refusal.the-variants.{OverLimit, ShortBuffer}
 use Rattle.refusal.specs.declared.Outcome.{Outcome}
 use Rattle.refusal.specs.declared.Outcome.the-variants.{Done, Refused}
-use Rattle.refusal.proofs.Tables.{done-refused, none, table-hit, table-pass, then-done, then-refused}
+use Rattle.refusal.proofs.Tables.{done-refused, none, table-hit, table-pass, then-done, then-refused, both-done}
 use Rattle.lent.specs.Grid.{noughts, over}
 use Rattle.lent.specs.Lent.{answerOf, toldOf, laid}
 use Rattle.lent.specs.declared.Shape.{Shape}
@@ -29,6 +29,9 @@ use Rattle.tree.specs.Order.{orderOutcome, orderAnswer, orderLaid}
 use Rattle.linkage.specs.Names.{distanceNamed, linkageNamed}
 use Rattle.linkage.specs.Children.{childrenOutcome, childrenAnswer, childrenRows}
 use Rattle.linkage.specs.declared.Linkage.{Linkage}
+use Rattle.linkage.specs.declared.Joined.{Joined}
+use Rattle.linkage.specs.declared.Joined.the-variants as joined
+use Rattle.linkage.proofs.Judged.{children-made, children-refuses}
 use Rattle.parity.specs.Parity.{ParityRoom, parityRoomLines, ParityCleared}
 use Rattle.hrp.specs.Hrp.{HrpJob, hrpOutcome, HrpAllocated}
 use Rattle.hrp.specs.Inner.{hrpJob}
@@ -43,10 +46,10 @@ use Rattle.equal.specs.Equal.{EqualShares}
 use Rattle.listing.specs.Listing.{refusalLine, listedAs, bytesIn, listedTells, ListingMade, refusalOutcome}
 use Rattle.listing.specs.declared.Listed.{Listed}
 use Rattle.job.specs.Job.{textTable, jobOutcome, listingOf, TextListed}
-use Rattle.foreign.specs.Foreign.{distanceSays, linkageSays, distanceMeant, linkageMeant, askedLines, askedLaid, mergeSizes, leafSizes, byteLines}
+use Rattle.foreign.specs.Foreign.{distanceSays, linkageSays, distanceMeant, linkageMeant, askedLines, askedLaid, countLines, mergeSizes, leafSizes, byteLines}
 use Rattle.foreign.proofs.Stages.{then-assoc, numberIn, told-number}
 use Rattle.foreign.proofs.Judges.{blank-length, number-done}
-use Rattle.capi.specs.Capi.{namedHrpOutcome, HrpAnswer, namedHcaaOutcome, HcaaAnswer, mergeOutcome, MergeAnswer, leafOutcome, LeafAnswer, listingOutcome, ListingAnswer, countLines, lineOutcome, LineAnswer}
+use Rattle.capi.specs.Capi.{namedHrpOutcome, HrpAnswer, namedHcaaOutcome, HcaaAnswer, mergeOutcome, MergeAnswer, leafOutcome, LeafAnswer, listingOutcome, ListingAnswer, lineOutcome, LineAnswer}
 
 -- ---- hierarchical risk parity: the shapes are read from the flags, and the distance from its name
 
@@ -127,28 +130,52 @@ module _ (n : ℕ) (p : List Float) (ps ps′ : Shape) (ep : ps ≡ ps′) (xs :
           equal-shares = equal-for split o r rows weights a (y .equally);
         }
 
--- ---- the merge step
+-- ---- the merge step, and the number of pairs: its buffer is cleared to blank before the call behind
 
-module _ (xs : List Float) (rows w : ℕ) (name : List ℕ) (room : ℕ) (said : Outcome)
-    (e : said ≡ andThen (first (mergeSizes (length xs) rows w room)) (linkageSays (linkageNamed name))) (r : ℕ) (out : List ℕ) where
-  merge-stages : mergeOutcome xs rows w name room ≡ andThen said (childrenOutcome xs rows w room)
+module _ (xs : List Float) (rows w : ℕ) (name : List ℕ) (room count : ℕ) (said : Outcome) (blank : List ℕ)
+    (e : said ≡ andThen (first (mergeSizes (length xs) rows w room)) (andThen (first (countLines count)) (linkageSays (linkageNamed name)))) (z : blank ≡ noughts count) where
+  merge-stages : mergeOutcome xs rows w name room count ≡ andThen said (childrenOutcome xs rows w room)
   unfolding mergeOutcome
   merge-stages = rw e (simp then-assoc)
 
-  pub merge-refused : (k : Refusal) → said ≡ Refused k → r ≡ numberIn said → out ≡ noughts room → MergeAnswer xs rows w name room r out
-  merge-refused k h a z =
-      let o : mergeOutcome xs rows w name room ≡ Refused k = merge-stages ∙ then-refused said _ k h in
-      record { answer = a ∙ ap numberIn (h ∙ sym o); rows-are = z ∙ laid-refused 0 _ k _ _ o }
+  pub merge-refused : (k : Refusal) → said ≡ Refused k → (r : ℕ) → r ≡ numberIn said → (out : List ℕ) → out ≡ noughts room → MergeAnswer xs rows w name room count r out blank
+  merge-refused k h r a out y =
+      let o : mergeOutcome xs rows w name room count ≡ Refused k = merge-stages ∙ then-refused said _ k h in
+      record { answer = a ∙ ap numberIn (h ∙ sym o); rows-are = y ∙ laid-refused 0 _ k _ _ o; pairs-are = z ∙ laid-refused 0 _ k _ _ o }
 
-  pub merge-done : said ≡ Done → (l : Linkage) → l ≡ linkageMeant (linkageNamed name) → (a : Answer) → a ≡ childrenAnswer xs rows w room → (o : Outcome) → o ≡ toldOf a → r ≡ numberIn o → out ≡ childrenRows l xs rows w room
-      → MergeAnswer xs rows w name room r out
-  unfolding childrenAnswer childrenRows
-  merge-done h l el a ea o eo q z =
-      let s : mergeOutcome xs rows w name room ≡ childrenOutcome xs rows w room = merge-stages ∙ then-done said _ h in
-      record {
-        answer = q ∙ ap numberIn (eo ∙ ap toldOf ea ∙ told-as _ _ _ ∙ sym s);
-        rows-are = rw (s, ← el) z;
-      }
+  -- there is room for the one number
+  pub merge-place : said ≡ Done → 0 < length blank
+  unfolding countLines
+  merge-place h =
+      let c : first (countLines count) ≡ Done = both-done _ _ (both-done _ _ (sym e ∙ h) .1) .0 in
+      let l : 1 ≤ count = ltb-false count 1 (none (countLines count) c .0) in
+      omega (arith, ap length z, length-replicate {A = ℕ} count 0)
+
+  module _ (h : said ≡ Done) (l : Linkage) (el : l ≡ linkageMeant (linkageNamed name)) (a : Joined) (ea : a ≡ childrenAnswer l xs rows w room) (out : List ℕ) (eo : out ≡ childrenRows l xs rows w room) where
+    merge-rest : mergeOutcome xs rows w name room count ≡ childrenOutcome xs rows w room
+    merge-rest = merge-stages ∙ then-done said _ h
+
+    pub merge-told : (k : Refusal) → a ≡ joined.Refused k → (r : ℕ) → r ≡ numberIn (Refused k) → MergeAnswer xs rows w name room count r out blank
+    unfolding childrenRows
+    merge-told k g r q =
+        let s : mergeOutcome xs rows w name room count ≡ Refused k = merge-rest ∙ children-refuses l xs rows w room k (sym ea ∙ g) in
+        record {
+          answer = q ∙ ap numberIn (sym s);
+          rows-are = rw (merge-rest, ← el) eo;
+          pairs-are = z ∙ laid-refused 0 _ k _ _ s;
+        }
+
+    pub merge-made : (k m : ℕ) → a ≡ joined.Made k m → MergeAnswer xs rows w name room count 0 out (set blank 0 m)
+    unfolding childrenRows over
+    merge-made k m g =
+        let b = children-made l xs rows w room k m (sym ea ∙ g) in
+        let s : mergeOutcome xs rows w name room count ≡ Done = merge-rest ∙ b .0 in
+        let y : set blank 0 m ≡ over (m ∷ []) blank = over-push [] blank 0 m refl (merge-place h) in
+        record {
+          answer = sym (ap numberIn s);
+          rows-are = rw (merge-rest, ← el) eo;
+          pairs-are = y ∙ rw (z, ← el, ← b .1) (laid-done 0 _ count (m ∷ []) s);
+        }
 
 -- ---- the leaf order, and the number of leaves: its buffer is cleared to blank before the call behind
 

@@ -12,7 +12,7 @@ use Rattle.refusal.specs.declared.Refusal.{Refusal}
 use Rattle.refusal.specs.declared.Refusal.the-variants.{DimensionMismatch, ShortBuffer}
 use Rattle.refusal.specs.declared.Outcome.{Outcome}
 use Rattle.refusal.specs.declared.Outcome.the-variants.{Done}
-use Rattle.refusal.proofs.Tables.{table-pass, table-end, first-append}
+use Rattle.refusal.proofs.Tables.{table-pass, table-end, first-append, then-done}
 use Rattle.lent.specs.Lent.{sizes}
 use Rattle.lent.specs.declared.Shape.{Shape}
 use Rattle.inputs.specs.Inputs.{matrixLines}
@@ -31,7 +31,7 @@ use Rattle.hcaa.specs.Inner.{hcaaJob}
 use Rattle.hcaa.specs.Hcaa as hcaa
 use Rattle.hcaa.specs.declared.Clusters.{Clusters}
 use Rattle.hcaa.proofs.Equal.{allocated}
-use Rattle.foreign.specs.Foreign.{distanceSays, linkageSays, distanceMeant, linkageMeant, askedLines, askedLaid, mergeSizes, leafSizes}
+use Rattle.foreign.specs.Foreign.{distanceSays, linkageSays, distanceMeant, linkageMeant, askedLines, askedLaid, countLines, mergeSizes, leafSizes}
 use Rattle.foreign.proofs.Stages.{then-assoc, then-again, numberIn}
 use Rattle.capi.specs.Capi.{namedHrpOutcome, HrpAnswer, namedHcaaOutcome, HcaaAnswer, mergeOutcome, leafOutcome}
 
@@ -112,9 +112,11 @@ module _ (xs : List Float) (rows w : ℕ) (name : List ℕ) (room : ℕ) where
   unfolding childrenOutcome childrenTable mergeSizes
   children-behind = ap first (sym (append-assoc (sizes (length xs) rows w) ((ltb room (2 * (w - 1)), ShortBuffer) ∷ []) _)) ∙ first-append _ _
 
-  pub merge-known : (l : Linkage) → linkageNamed name ≡ linkage.Of l → mergeOutcome xs rows w name room ≡ childrenOutcome xs rows w room
-  unfolding mergeOutcome linkageSays
-  merge-known l e = then-again _ _ _ _ (rw e) children-behind
+  pub merge-known : (count : ℕ) → 1 ≤ count → (l : Linkage) → linkageNamed name ≡ linkage.Of l → mergeOutcome xs rows w name room count ≡ childrenOutcome xs rows w room
+  unfolding mergeOutcome countLines linkageSays
+  merge-known count h l e =
+      let c : first ((ltb count 1, ShortBuffer) ∷ []) ≡ Done = table-pass _ ShortBuffer _ (le-ltb count 1 h) ∙ table-end in
+      rw (then-done _ _ c) (then-again _ _ _ _ (rw e) children-behind)
 
 -- ---- the leaf order
 

@@ -3,12 +3,10 @@ use Prim.Native.Nat.{ℕ, _-_, _*_}
 use mathlib.Core.Path.{_≡_}
 use mathlib.Core.Bool.{cond}
 use mathlib.Core.List.{List, [], _∷_}
-use lib.Dec.{ltb}
 use lib.ListN.{length, take}
 use lib.Ieee.{Float}
-use Rattle.refusal.specs.Table.{Line, first, andThen}
+use Rattle.refusal.specs.Table.{first, andThen}
 use Rattle.refusal.specs.Telling.{outcomeTells}
-use Rattle.refusal.specs.declared.Refusal.the-variants.{ShortBuffer}
 use Rattle.refusal.specs.declared.Outcome.{Outcome}
 use Rattle.lent.specs.Lent.{isSet, laid}
 use Rattle.inputs.specs.Inputs.{matrixLines}
@@ -17,6 +15,7 @@ use Rattle.tree.specs.Tree.{leavesOf}
 use Rattle.tree.specs.Order.{orderOutcome}
 use Rattle.linkage.specs.Names.{distanceNamed, linkageNamed}
 use Rattle.linkage.specs.Merge.{mergeRows}
+use Rattle.linkage.specs.Pairs.{pairsVisited}
 use Rattle.linkage.specs.Children.{childrenOutcome}
 use Rattle.parity.specs.Parity as parity
 use Rattle.hrp.specs.Hrp as hrp
@@ -28,7 +27,7 @@ use Rattle.metrics.specs.declared.Metric.the-variants.{EqualWeighting}
 use Rattle.equal.specs.Equal.{EqualShares}
 use Rattle.listing.specs.Listing.{refusalLine, refusalOutcome}
 use Rattle.job.specs.Job.{jobOutcome, listingOf}
-use Rattle.foreign.specs.Foreign.{distanceSays, linkageSays, linkageMeant, askedLines, askedLaid, mergeSizes, leafSizes, byteLines}
+use Rattle.foreign.specs.Foreign.{distanceSays, linkageSays, linkageMeant, askedLines, askedLaid, countLines, mergeSizes, leafSizes, byteLines}
 
 -- ---- hierarchical risk parity
 
@@ -73,17 +72,20 @@ pub record CovarianceAnswer (xs : List Float) (rows w room r : ℕ) (out : List 
   pub answer : r ≡ outcomeTells (covarianceOutcome xs rows w room) .number
   pub cells-are : out ≡ covariances xs rows w room
 
--- ---- the merge step: a matrix xs of distances, and rows for `room` numbers
+-- ---- the merge step: a matrix xs of distances, rows for `room` numbers, and how many pairs were looked at
 
--- then 8; then as the call behind
-unfoldable pub mergeOutcome : List Float → ℕ → ℕ → List ℕ → ℕ → Outcome
-unfolding mergeSizes linkageSays
-mergeOutcome xs rows w name room =
-    andThen (first (mergeSizes (length xs) rows w room)) (andThen (linkageSays (linkageNamed name)) (childrenOutcome xs rows w room))
+-- 9, 10, 11; then 8; then as the call behind
+unfoldable pub mergeOutcome : List Float → ℕ → ℕ → List ℕ → ℕ → ℕ → Outcome
+unfolding mergeSizes countLines linkageSays
+mergeOutcome xs rows w name room count =
+    andThen (first (mergeSizes (length xs) rows w room))
+    (andThen (first (countLines count)) (andThen (linkageSays (linkageNamed name)) (childrenOutcome xs rows w room)))
 
-pub record MergeAnswer (xs : List Float) (rows w : ℕ) (name : List ℕ) (room r : ℕ) (out : List ℕ) : Type 0 where
-  pub answer : r ≡ outcomeTells (mergeOutcome xs rows w name room) .number
-  pub rows-are : out ≡ laid 0 (mergeOutcome xs rows w name room) room (mergeRows (linkageMeant (linkageNamed name)) w xs)
+pub record MergeAnswer (xs : List Float) (rows w : ℕ) (name : List ℕ) (room count r : ℕ) (out pairs : List ℕ) : Type 0 where
+  pub answer : r ≡ outcomeTells (mergeOutcome xs rows w name room count) .number
+  pub rows-are : out ≡ laid 0 (mergeOutcome xs rows w name room count) room (mergeRows (linkageMeant (linkageNamed name)) w xs)
+  -- "Return the number of pairs looked at", "zero on refusal"
+  pub pairs-are : pairs ≡ laid 0 (mergeOutcome xs rows w name room count) count (pairsVisited (linkageMeant (linkageNamed name)) w xs ∷ [])
 
 -- ---- the leaf order: the leaves under node v, and how many there are
 
@@ -110,10 +112,6 @@ pub record ListingAnswer (text : List ℕ) (room count r : ℕ) (listing bytes :
   pub bytes-are : bytes ≡ laid 0 (listingOutcome text room count) count (length (listingOf text) ∷ [])
 
 -- ---- "a refusal prints `refused`, tab, number": its line of `room` bytes, and how many bytes of it there are
-
--- 11: `count` entries for the one number
-unfoldable pub countLines : ℕ → List Line
-countLines count = (ltb count 1, ShortBuffer) ∷ []
 
 -- then as the call behind
 unfoldable pub lineOutcome : ℕ → ℕ → ℕ → Outcome

@@ -3,6 +3,7 @@
 use hcaa::Clusters;
 use lent::Answer;
 use linkage::Distance;
+use linkage::Joined;
 use linkage::Linkage;
 use linkage::NamedDistance;
 use linkage::NamedLinkage;
@@ -288,7 +289,7 @@ pub extern "C" fn rovignesc_covariance(
     )))
 }
 
-// The merge step.
+// The merge step, and how many pairs of slots it looked at.
 #[no_mangle]
 pub extern "C" fn rovignesc_linkage_children(
     distances: &[f64],
@@ -296,27 +297,40 @@ pub extern "C" fn rovignesc_linkage_children(
     distances_columns: usize,
     linkage: &[u8],
     rows: &mut [usize],
+    pairs: &mut [usize],
 ) -> u8
-    ensures { λ r. ⌜ MergeAnswer (now (distances .entry)) «distances_rows» «distances_columns» (now (linkage .entry)) (length (now (rows .entry))) r (now (rows .exit)) ⌝ }
+    ensures { λ r. ⌜ MergeAnswer (now (distances .entry)) «distances_rows» «distances_columns» (now (linkage .entry)) (length (now (rows .entry))) (length (now (pairs .entry))) r (now (rows .exit)) (now (pairs .exit)) ⌝ }
 {
     let said = foreign::judge_merge(
         distances.len(),
         distances_rows,
         distances_columns,
         rows.len(),
+        pairs.len(),
         linkage,
     );
+    lent::clear_numbers(pairs);
     let Outcome::Done = said else {
         lent::clear_numbers(rows);
         return foreign::number(said);
     };
-    foreign::number(lent::told(linkage::linkage_children(
+    let answer = linkage::linkage_children(
         distances,
         distances_rows,
         distances_columns,
         linkage_in(linkage),
         rows,
-    )))
+    );
+    match answer {
+        Joined::Made {
+            rows: _,
+            pairs: count,
+        } => {
+            pairs[0] = count;
+            0
+        }
+        Joined::Refused(refusal) => foreign::number(Outcome::Refused(refusal)),
+    }
 }
 
 // The leaf order, and how many leaves there are.

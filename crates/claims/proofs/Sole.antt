@@ -69,6 +69,9 @@ use Rattle.tree.proofs.is_tree as tree·is-tree
 use Rattle.tree.proofs.is_order as tree·is-order
 use Rattle.tree.proofs.quasi_diagonalization as tree·quasi-diagonalization
 use Rattle.tree.proofs.seriate_matrix as tree·seriate-matrix
+use Rattle.pairing.proofs.paired as pairing·paired
+use Rattle.pairing.proofs.offered as pairing·offered
+use Rattle.slots.proofs.close_gap as slots·close-gap
 use Rattle.linkage.proofs.distance_named as linkage·distance-named
 use Rattle.linkage.proofs.linkage_named as linkage·linkage-named
 use Rattle.linkage.proofs.Linkage.update as linkage·update
@@ -385,6 +388,19 @@ tree-quasi-diagonalization κs a r r′ e e′ p q = (sole (p .0) (q .0), λ i. 
 pub tree-seriate-matrix : Sole tree·seriate-matrix.ended tree·seriate-matrix.Reads.Post
 tree-seriate-matrix κs a r r′ e e′ p q = (sole (p .0) (q .0), λ i. (tt, (tt, (tt, (tt, (sole (p .1) (q .1) i, tt))))))
 
+-- ---- pairing: the best pair of a scan
+
+pub pairing-paired : Sole pairing·paired.ended pairing·paired.Reads.Post
+pairing-paired κs a r r′ e e′ p q = (sole p q, refl)
+
+pub pairing-offered : Sole pairing·offered.ended pairing·offered.Reads.Post
+pairing-offered κs a r r′ e e′ p q = (sole p q, refl)
+
+-- ---- slots: the live slots, packed
+
+pub slots-close-gap : Sole slots·close-gap.ended slots·close-gap.Reads.Post
+slots-close-gap κs a r r′ e e′ p q = (refl, λ i. (sole p q i, (tt, (tt, tt))))
+
 -- ---- linkage: names, and merge rows
 
 pub linkage-distance-named : Sole linkage·distance-named.ended linkage·distance-named.Reads.Post
@@ -606,7 +622,7 @@ pub capi-rovignesc-covariance : Sole capi·rovignesc-covariance.ended capi·rovi
 capi-rovignesc-covariance κs a r r′ e e′ p q = (sole (p .answer) (q .answer), λ i. (tt, (tt, (tt, (sole (p .cells-are) (q .cells-are) i, tt)))))
 
 pub capi-rovignesc-linkage-children : Sole capi·rovignesc-linkage-children.ended capi·rovignesc-linkage-children.Reads.Post
-capi-rovignesc-linkage-children κs a r r′ e e′ p q = (sole (p .answer) (q .answer), λ i. (tt, (tt, (tt, (tt, (sole (p .rows-are) (q .rows-are) i, tt))))))
+capi-rovignesc-linkage-children κs a r r′ e e′ p q = (sole (p .answer) (q .answer), λ i. (tt, (tt, (tt, (tt, (sole (p .rows-are) (q .rows-are) i, (sole (p .pairs-are) (q .pairs-are) i, tt)))))))
 
 pub capi-rovignesc-quasi-diagonalization : Sole capi·rovignesc-quasi-diagonalization.ended capi·rovignesc-quasi-diagonalization.Reads.Post
 capi-rovignesc-quasi-diagonalization κs a r r′ e e′ p q = (sole (p .answer) (q .answer), λ i. (tt, (tt, (tt, (sole (p .order-is) (q .order-is) i, (sole (p .leaves-are) (q .leaves-are) i, tt))))))

@@ -19,7 +19,7 @@ use Rattle.refusal.proofs.Numbers.{number-some, no-values-or-two}
 use Rattle.lent.specs.Grid.{noughts}
 use Rattle.lent.specs.Lent.{sizes}
 use Rattle.linkage.specs.Names.{linkageNamed}
-use Rattle.foreign.specs.Foreign.{linkageSays, askedLines, askedLaid, mergeSizes}
+use Rattle.foreign.specs.Foreign.{linkageSays, askedLines, askedLaid, countLines, mergeSizes}
 use Rattle.foreign.proofs.Stages.{then-assoc, one-line, numberIn}
 
 -- ---- HCAA
@@ -72,11 +72,12 @@ number-done (Refused r) e = absurd (number-some r e)
 
 -- ---- the merge step
 
--- what the code joins is the lines of its sizes, and then the name
-pub merge-judged : (len rows w room : ℕ) (name : List ℕ) (sized : Outcome) (short : Bool) (known rest : Outcome)
-    → sized ≡ first (sizes len rows w) → short ≡ ltb room (2 * (w - 1)) → known ≡ linkageSays (linkageNamed name) → rest ≡ orElse short ShortBuffer known
-    → andThen sized rest ≡ andThen (first (mergeSizes len rows w room)) (linkageSays (linkageNamed name))
-unfolding mergeSizes
-merge-judged len rows w room name sized short known rest a b d e =
+-- what the code joins is the lines of its sizes, that of the number's place, and then the name
+pub merge-judged : (len rows w room count : ℕ) (name : List ℕ) (sized : Outcome) (short : Bool) (known mid rest : Outcome)
+    → sized ≡ first (sizes len rows w) → short ≡ ltb room (2 * (w - 1)) → known ≡ linkageSays (linkageNamed name) → mid ≡ orElse (ltb count 1) ShortBuffer known
+    → rest ≡ orElse short ShortBuffer mid
+    → andThen sized rest ≡ andThen (first (mergeSizes len rows w room)) (andThen (first (countLines count)) (linkageSays (linkageNamed name)))
+unfolding mergeSizes countLines
+merge-judged len rows w room count name sized short known mid rest a b d m e =
     let l : List Line = (ltb room (2 * (w - 1)), ShortBuffer) ∷ [] in
-    rw (a, e, b, d, one-line, first-append (sizes len rows w) l) (simp then-assoc)
+    rw (a, e, m, b, d, one-line, one-line, first-append (sizes len rows w) l) (simp then-assoc)

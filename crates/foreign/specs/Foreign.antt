@@ -54,6 +54,10 @@ askedLaid o asked = cond (ltb asked 2) (noughts asked) (outcomeTells o .values +
 
 -- ---- sizes
 
+-- 11: `count` entries for a number that a call returns beside its own
+unfoldable pub countLines : ℕ → List Line
+countLines count = (ltb count 1, ShortBuffer) ∷ []
+
 -- the merge step: 9, 10, 11
 unfoldable pub mergeSizes : ℕ → ℕ → ℕ → ℕ → List Line
 mergeSizes len rows w room = sizes len rows w ++ ((ltb room (2 * (w - 1)), ShortBuffer) ∷ [])

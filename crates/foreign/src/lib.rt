@@ -14,7 +14,7 @@ ghost use Rattle.inputs.specs.Inputs.{matrixLines};
 ghost use Rattle.linkage.specs.Names.{distanceNamed, linkageNamed};
 ghost use Rattle.rooms.specs.Rooms.{roomLines, parityRoomLines};
 ghost use Rattle.listing.specs.Listing.{listedTells};
-ghost use Rattle.foreign.specs.Foreign.{distanceSays, linkageSays, askedLines, askedLaid, mergeSizes, leafSizes, byteLines};
+ghost use Rattle.foreign.specs.Foreign.{distanceSays, linkageSays, askedLines, askedLaid, countLines, mergeSizes, leafSizes, byteLines};
 
 // The refusal's number, or 0.
 pub fn number(said: Outcome) -> u8
@@ -144,17 +144,21 @@ pub fn judge_hcaa(
     refusal::and_then(matrices, refusal::and_then(rooms, rest))
 }
 
-// 9, 10 and 11 of the merge step, then its linkage's name.
-pub fn judge_merge(len: usize, rows: usize, columns: usize, room: usize, name: &[u8]) -> Outcome
-    ensures { λ r. ⌜ r ≡ andThen (first (mergeSizes len rows columns room)) (linkageSays (linkageNamed (now (name .entry)))) ⌝ }
+// 9, 10 and 11 of the merge step, 11 of the place for its number of pairs, then its linkage's name.
+pub fn judge_merge(
+    len: usize,
+    rows: usize,
+    columns: usize,
+    room: usize,
+    count: usize,
+    name: &[u8],
+) -> Outcome
+    ensures { λ r. ⌜ r ≡ andThen (first (mergeSizes len rows columns room)) (andThen (first (countLines count)) (linkageSays (linkageNamed (now (name .entry))))) ⌝ }
 {
     let sized = lent::sized(len, rows, columns);
-    let rest = refusal::refuse(
-        lent::lacks_rows(room, columns),
-        Refusal::ShortBuffer,
-        linkage_said(name),
-    );
-    refusal::and_then(sized, rest)
+    let o = refusal::refuse(count < 1, Refusal::ShortBuffer, linkage_said(name));
+    let o = refusal::refuse(lent::lacks_rows(room, columns), Refusal::ShortBuffer, o);
+    refusal::and_then(sized, o)
 }
 
 // 9 and 11 of the leaf order.

@@ -3,6 +3,7 @@
 use channel::Input;
 use distances::Measure;
 use lent::Answer;
+use linkage::Joined;
 use linkage::Linkage;
 use recorded::Item;
 use recorded::Place;
@@ -109,7 +110,15 @@ fn matrix(text: &[u8], from: Place, code: u64, told: &mut [u8]) -> Place {
     Place { at, end }
 }
 
-// A matrix to merge rows.
+// The rows of a merge step as a matrix of two columns.
+fn rows_of(answer: Joined) -> Answer {
+    match answer {
+        Joined::Made { rows, pairs: _ } => Answer::Matrix { rows, columns: 2 },
+        Joined::Refused(refusal) => Answer::Refused(refusal),
+    }
+}
+
+// A matrix to merge rows. The pairs looked at are not among the recorded answers.
 fn children(text: &[u8], from: Place, told: &mut [u8]) -> Place {
     let mut cells = [1.5; 4352];
     let mut out = [7usize; 512];
@@ -123,7 +132,7 @@ fn children(text: &[u8], from: Place, told: &mut [u8]) -> Place {
         method(h.parameter),
         recorded::lent_ids(&mut out, room),
     );
-    let end = recorded::tell_numbers(answer, recorded::front(&out, room), told, from.end);
+    let end = recorded::tell_numbers(rows_of(answer), recorded::front(&out, room), told, from.end);
     Place { at, end }
 }
 
