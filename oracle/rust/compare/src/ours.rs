@@ -102,6 +102,8 @@ extern "C" {
         linkage_len: usize,
         rows: *mut usize,
         rows_len: usize,
+        pairs: *mut usize,
+        pairs_len: usize,
     ) -> u8;
 
     pub fn rovignesc_quasi_diagonalization(

@@ -158,6 +158,13 @@ impl Case for Covariance {
 pub struct Merge {
     distances: Lone,
     linkage: Vec<u8>,
+    /// Of the number of pairs.
+    count: usize,
+}
+
+/// The live pairs that document 01's scans visit: each step has one slot fewer.
+fn live_pairs(n: usize) -> usize {
+    (2..=n).map(|live| live * (live - 1) / 2).sum()
 }
 
 impl Merge {
@@ -165,6 +172,9 @@ impl Merge {
     fn theirs(&self, cells: &[f64]) -> Result<Vec<usize>, u8> {
         let Lone { rows, columns, .. } = self.distances;
         self.distances.sized(need::children)?;
+        if self.count < 1 {
+            return Err(11);
+        }
         let linkage = api::linkage_named(&text(&self.linkage))?;
         rules::square(rows, columns)?;
         Ok(api::linkage_children(&DMatrix::from_row_slice(rows, columns, cells), linkage).concat())
@@ -186,11 +196,11 @@ impl Case for Merge {
             let i = rng.below(cells.len());
             cells[i] = f64::from_bits(0x7ff0_0000_0000_0001);
         }
-        let [room] = damage::rooms(rng, [need::children(n)]);
+        let [room, count] = damage::rooms(rng, [need::children(n), 1]);
         let linkage = names::linkage(rng);
         let whole = Lone { rows: n, columns: n, cells, room };
         let distances = if rng.below(10) == 0 { whole.damaged(rng) } else { whole };
-        Self { distances, linkage }
+        Self { distances, linkage, count }
     }
 
     /// To document 01 one NaN is like any other, so a signalling one is judged as if it were quiet; whether the source does so too is seen apart.
@@ -201,6 +211,7 @@ impl Case for Merge {
         desk.doubles[0].set(cells);
         desk.bytes[0].set(&self.linkage);
         desk.rows.dirty(self.distances.room, junk);
+        desk.count.dirty(self.count, junk);
         // The slices are the desk's own, and none of them overlaps another.
         let ours = unsafe {
             rovignesc_linkage_children(
@@ -212,22 +223,26 @@ impl Case for Merge {
                 desk.bytes[0].len(),
                 desk.rows.at(),
                 desk.rows.len(),
+                desk.count.at(),
+                desk.count.len(),
             )
         };
         let due = theirs.as_ref().err().copied().unwrap_or(0);
+        let pairs = theirs.as_ref().ok().map(|_| live_pairs(self.distances.columns));
         let verdict = number(ours, due)
             .and_then(|()| desk.rows.holds("rows", theirs.as_deref().unwrap_or(&[])))
+            .and_then(|()| desk.count.holds("pairs", pairs.as_slice()))
             .and_then(|()| desk.doubles[0].unchanged("distances", cells))
             .and_then(|()| desk.bytes[0].unchanged("linkage", &self.linkage));
         Judged { number: due, listed: if raw == theirs { Listed::No } else { Listed::Signalling }, verdict }
     }
 
     fn size(&self) -> usize {
-        self.distances.size(need::children) + self.linkage.len()
+        self.distances.size(need::children) + self.linkage.len() + weight_of_rooms(&[self.count], &[1])
     }
 
     fn show(&self) -> String {
-        format!("{}linkage: {}\n", self.distances.show("distances", "rows"), bytes(&self.linkage))
+        format!("{}linkage: {}\nroom for the pairs: {}\n", self.distances.show("distances", "rows"), bytes(&self.linkage), self.count)
     }
 
     fn smaller(&self) -> Vec<Self> {
@@ -237,7 +252,9 @@ impl Case for Merge {
             out.extend((0..m.columns).map(|asset| m.less(1, 1, |r, c| r != asset && c != asset)));
         }
         out.extend(m.plainer(need::children));
-        out.into_iter().map(|distances| Self { distances, linkage: self.linkage.clone() }).collect()
+        let mut out: Vec<Self> = out.into_iter().map(|distances| Self { distances, ..self.clone() }).collect();
+        out.push(Self { count: 1, ..self.clone() });
+        out
     }
 }
 

@@ -249,20 +249,42 @@ fn covariances(given: &[Given]) {
     }
 }
 
+/// The matrices of the merge step in the file that MATRICES names, for others to be timed on: a line for each, its size and the bits of its cells.
+fn write(matrices: &[(usize, Vec<f64>)]) {
+    let Some(path) = std::env::var_os("MATRICES") else { return };
+    let hex = |cells: &Vec<f64>| cells.iter().map(|x| format!(" {:016x}", x.to_bits())).collect::<String>();
+    let text: String = matrices.iter().map(|(n, cells)| format!("{n}{}\n", hex(cells))).collect();
+    std::fs::write(path, text).expect("the matrices' file");
+}
+
+/// The same matrices by each linkage.
 fn merges(rng: &mut Random) {
-    for n in ASSETS {
-        let cells: Vec<f64> = compare::kinds::mirrored(n, 0.0, || 2.0 * rng.unit());
-        let m = DMatrix::from_row_slice(n, n, &cells);
-        let mut rows = vec![7; 2 * (n - 1)];
-        let mut ours = || {
-            let name = b"ward";
-            // Every slice is a vector of its own.
-            unsafe {
-                rovignesc_linkage_children(cells.as_ptr(), cells.len(), n, n, name.as_ptr(), name.len(), rows.as_mut_ptr(), rows.len())
-            }
-        };
-        assert_eq!(ours(), 0);
-        beside("merge_ward", n, 1, || keep(ours()), || keep(api::linkage_children(&m, Linkage::Ward)));
+    let matrices = ASSETS.map(|n| (n, compare::kinds::mirrored(n, 0.0, || 2.0 * rng.unit())));
+    write(&matrices);
+    for (name, linkage) in [("ward", Linkage::Ward), ("single", Linkage::Single)] {
+        for (n, cells) in &matrices {
+            let m = DMatrix::from_row_slice(*n, *n, cells);
+            let (mut rows, mut pairs) = (vec![7; 2 * (n - 1)], [7]);
+            let mut ours = || {
+                // Every slice is a vector of its own.
+                unsafe {
+                    rovignesc_linkage_children(
+                        cells.as_ptr(),
+                        cells.len(),
+                        *n,
+                        *n,
+                        name.as_ptr(),
+                        name.len(),
+                        rows.as_mut_ptr(),
+                        rows.len(),
+                        pairs.as_mut_ptr(),
+                        1,
+                    )
+                }
+            };
+            assert_eq!(ours(), 0);
+            beside(&format!("merge_{name}"), *n, 1, || keep(ours()), || keep(api::linkage_children(&m, linkage)));
+        }
     }
 }
 
