@@ -111,6 +111,13 @@ impl Linkage {
     }
 }
 
+// How many rows n assets have.
+fn merges(n: usize) -> usize
+    ensures { λ r. ⌜ r ≡ n - 1 ⌝ }
+{
+    if n == 0 { 0 } else { n - 1 }
+}
+
 fn at(d: &[f64; 4096], n: usize, r: usize, c: usize) -> f64
     requires { ⌜ (n ≤ 64) × (r < n) × (c < n) ⌝ }
     ensures { λ x. ⌜ x ≡ cell (now (d .entry)) n r c ⌝ }
@@ -294,13 +301,6 @@ fn number(ids: &mut [usize; 64])
         let id = leaf(Asset(k));
         ids[k] = id.0;
     }
-}
-
-// How many rows n assets have.
-fn merges(n: usize) -> usize
-    ensures { λ r. ⌜ r ≡ n - 1 ⌝ }
-{
-    if n == 0 { 0 } else { n - 1 }
 }
 
 // The n - 1 steps, from arrays that are all zero and sizes that are all 1. The answer is the pairs looked at.
