@@ -20,6 +20,12 @@ truth e = subst T (sym e) tt
 pub untruth : {b : Bool} → b ≡ false → T (not b)
 untruth e = subst (λ (t : Bool). T (not t)) (sym e) tt
 
+-- ---- bits
+
+-- two doubles with the same bits are the same
+pub same-bits : (x y : Float) → T (fits binary64 x) → T (fits binary64 y) → toBits binary64 x ≡ toBits binary64 y → x ≡ y
+same-bits x y f g e = sym (ofBits-toBits binary64 x f) ∙ ap (ofBits binary64) e ∙ ofBits-toBits binary64 y g
+
 -- ---- NaN
 
 -- x != x is how the code asks for a NaN

@@ -10,9 +10,9 @@ use borrow.Author.Tests.{eq-eqb, ne-eqb}
 use lib.ListN.{length, getD, set, replicate, length-set}
 use lib.Seq.{getD-set-same, getD-set-other}
 use lib.Dec.{T}
-use lib.Ieee.{Float, nan, binary64, add, sub, mul, fits, ofBits, toBits}
-use lib.Ieee.Bits.{ofBits-toBits}
+use lib.Ieee.{Float, nan, binary64, add, sub, mul, fits, toBits}
 use Rattle.arithmetic.specs.Constants.{pz}
+use Rattle.arithmetic.proofs.Facts.{same-bits}
 use Rattle.lent.specs.Grid.{cell}
 use Rattle.lent.proofs.Laws.{same-or-not}
 use Rattle.lent.proofs.Sums.{sum-start, sum-step}
@@ -26,8 +26,7 @@ use Rattle.distances.specs.Inner.{sumOf, withSquare, Picked}
 pub distance-across : (of : Measure) (corr : List Float) (n i j : ℕ) → ((k : ℕ) → T (fits binary64 (getD corr k nan))) → toBits binary64 (cell corr n i j) ≡ toBits binary64 (cell corr n j i)
     → distanceCell of corr n j i ≡ distanceCell of corr n i j
 unfolding distanceCell
-distance-across of corr n i j f e =
-    ap (distanceOf of) (sym (ofBits-toBits binary64 _ (f (j * n + i))) ∙ ap (ofBits binary64) (sym e) ∙ ofBits-toBits binary64 _ (f (i * n + j)))
+distance-across of corr n i j f e = ap (distanceOf of) (same-bits _ _ (f (j * n + i)) (f (i * n + j)) (sym e))
 
 -- columns i and j in either order
 module _ (d : List Float) (n i j : ℕ) where

@@ -86,3 +86,16 @@ range-end f lo i hi s t e h g = e ∙ ap (λ (k : ℕ). range f lo k s) (le-anti
 pub range-same : {S : Type 0} (f g : ℕ → S → S) (lo hi : ℕ) (s : S) → ((i : ℕ) (t : S) → lo ≤ i → i < hi → f i t ≡ g i t) → range f lo hi s ≡ range g lo hi s
 unfolding range
 range-same f g lo hi s h = span-same f g lo (hi - lo) s (λ i t a b. h i t a (omega arith))
+
+-- two loops at once, and what they keep between them
+span-two : {S T : Type 0} (P : S → T → Type 0) (f : ℕ → S → S) (g : ℕ → T → T) (lo k : ℕ) (s : S) (t : T) → P s t
+    → ((i : ℕ) (a : S) (b : T) → lo ≤ i → i < lo + k → P a b → P (f i a) (g i b)) → P (span f lo k s) (span g lo k t)
+unfolding span
+span-two P f g lo zero s t h turn = h
+span-two P f g lo (suc k) s t h turn =
+    turn (lo + k) (span f lo k s) (span g lo k t) (omega arith) (omega arith) (span-two P f g lo k s t h (λ i a b x y p. turn i a b x (omega arith) p))
+
+pub range-two : {S T : Type 0} (P : S → T → Type 0) (f : ℕ → S → S) (g : ℕ → T → T) (lo hi : ℕ) (s : S) (t : T) → P s t
+    → ((i : ℕ) (a : S) (b : T) → lo ≤ i → i < hi → P a b → P (f i a) (g i b)) → P (range f lo hi s) (range g lo hi t)
+unfolding range
+range-two P f g lo hi s t h turn = span-two P f g lo (hi - lo) s t h (λ i a b x y p. turn i a b x (omega arith) p)

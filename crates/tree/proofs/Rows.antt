@@ -16,18 +16,9 @@ use lib.ListN.{length, getD, drop, drop-of-length-le}
 use lib.Seq.{drop-cons}
 use borrow.Author.Tests.{ltb-true, eqb-true, eqb-false, eq-eqb, ne-eqb, lt-ltb, le-ltb}
 use Rattle.lent.specs.Count.{one, count, upto, overAll}
-use Rattle.lent.proofs.Laws.{either}
+use Rattle.lent.proofs.Laws.{either, and-left, and-right}
 use Rattle.lent.proofs.Counting.{one-le, one-false, upto-zero, upto-ones, upto-add, upto-is}
 use Rattle.tree.specs.Rows.{below, once, isTree, isOrder}
-
-and-left : (a b : Bool) → (a && b) ≡ true → a ≡ true
-and-left true b h = refl
-and-left false b h = h
-
-and-right : (a b : Bool) → (a && b) ≡ true → b ≡ true
-and-right true b h = h
-and-right false true h = refl
-and-right false false h = h
 
 -- ---- what `below` says of the entry at j, and back
 
