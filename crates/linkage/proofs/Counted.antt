@@ -17,34 +17,20 @@ use Rattle.linkage.specs.declared.Linkage.{Linkage}
 use Rattle.linkage.specs.Merge.{stateAt}
 use Rattle.slots.specs.Inner.{packed}
 use Rattle.slots.proofs.Packed.{packed-length}
-use Rattle.linkage.specs.Inner.{met}
+use Rattle.triangle.specs.Triangle.{met}
+use Rattle.triangle.proofs.Places.{square, met-all, met-least}
 use Rattle.linkage.specs.Pairs.{countAll, pairsAt, pairsVisited}
 use Rattle.linkage.specs.Children.{childrenOutcome, childrenAnswer, joinedOf, pairsOf}
 use Rattle.linkage.proofs.Judged.{children-done}
 use Rattle.linkage.proofs.Rows.{state-inv}
-use Rattle.linkage.proofs.Packed.{count-packed, met-more, met-none, met-least}
+use Rattle.linkage.proofs.Packed.{count-packed}
 
--- (r + 1)² and (r + 1)³
-square : (r : ℕ) → (r + 1) * (r + 1) ≡ r * r + 2 * r + 1
-square r = add-mul r 1 (r + 1) ∙ omega (arith, mul-add r r 1, mul-one r, one-mul (r + 1))
-
+-- (r + 1)³
 cube : (r : ℕ) → (r + 1) * (r + 1) * (r + 1) ≡ r * r * r + 3 * (r * r) + 3 * r + 1
 cube r =
     ap (λ (q : ℕ). q * (r + 1)) (square r)
     ∙ mul-add (r * r + 2 * r + 1) r 1
     ∙ omega (arith, mul-one (r * r + 2 * r + 1), add-mul (r * r + 2 * r) 1 r, add-mul (r * r) (2 * r) r, one-mul r, mul-assoc 2 r r)
-
-met-sum : (m i : ℕ) → i ≤ m → 2 * met m i + i * i + i ≡ 2 * (m * i)
-met-sum m zero h = omega (arith, met-none m, mul-zero m)
-met-sum m (suc i) h =
-    let r = met-sum m i (omega arith) in
-    let e = met-more m i in
-    let q = square i in
-    let p : m * (i + 1) ≡ m * i + m = mul-add m i 1 ∙ ap (λ (k : ℕ). m * i + k) (mul-one m) in
-    rw (← add-one i) (omega arith)
-
-pub met-all : (m : ℕ) → 2 * met m m + m ≡ m * m
-met-all m = omega (arith, met-sum m m (omega arith))
 
 -- the pairs of one scan
 pub count-lives : (n k : ℕ) (live : List Bool) → length (packed n live) + k ≡ n → countAll n live ≡ met (n - k) (n - k)

@@ -1,4 +1,4 @@
--- Laws of cells and of rows that are written two entries at a time. Assumes nothing.
+-- Laws of rows that are written two entries at a time. Assumes nothing.
 use Prim.Native.Nat.{ℕ, suc, _+_, _-_, _*_, _<_, _≤_}
 use mathlib.Core.Path.{_≡_, sym, ap, ap₂, _∙_}
 use mathlib.Core.List.{List, [], _∷_, _++_, append-assoc}
@@ -6,14 +6,6 @@ use native.Mathlib.Omega.{arith}
 use lib.ListN.{length, take, drop, set, length-set, take-append-drop}
 use lib.Seq.{take-suc-set, drop-set-lt, drop-drop}
 use Rattle.lent.specs.Grid.{over}
-use Rattle.lent.proofs.Laws.{cell-lt, square-in}
-
--- a cell of an n by n matrix, n at most 64, is within the working matrix; and so is its mirror image
-pub cell-below : (n r c : ℕ) → n ≤ 64 → r < n → c < n → r * n + c < 4096
-cell-below n r c h hr hc = omega (arith, cell-lt n n r c hr hc, square-in n h)
-
-pub cells-below : (n r c : ℕ) → n ≤ 64 → r < n → c < n → (r * n + c < 4096) × (c * n + r < 4096)
-cells-below n r c h hr hc = (cell-below n r c h hr hc, cell-below n c r h hc hr)
 
 -- two entries written one after the other: the part before them with the two, and the part after them
 pub take-two : (r : List ℕ) (k a b : ℕ) → 2 * k + 1 < length r

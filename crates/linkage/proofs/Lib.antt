@@ -3,6 +3,7 @@ pub mod Scan
 pub mod Rows
 pub mod Front
 pub mod Packed
+pub mod Forms
 pub mod Counted
 pub mod Stepped
 pub mod Judged

@@ -1,4 +1,4 @@
--- Over the places of the packed slots the scan, the update and the count are those of specs/Merge.antt and specs/Pairs.antt over the flags. Assumes nothing.
+-- Over the places of the packed slots the scan, the update of the square form and the count are those of specs/Merge.antt and specs/Pairs.antt over the flags. Assumes nothing.
 use Prim.Native.Nat.{ℕ, zero, suc, _+_, _-_, _*_, _≤_, _<_, zero-le, min, max}
 use mathlib.Core.Path.{_≡_, refl, sym, ap, _∙_, subst}
 use mathlib.Core.Logic.{⊎-elim}
@@ -16,27 +16,31 @@ use Rattle.lent.proofs.Range.{range-none, range-suc, range-first, range-same, r
 use Rattle.pairing.specs.declared.Best.{Best}
 use Rattle.slots.specs.Inner.{packed, Below}
 use Rattle.slots.proofs.Packed.{placed, ones, packed-live, by-places, by-later}
+use Rattle.triangle.specs.declared.Form.the-variants.{Square}
+use Rattle.triangle.specs.Triangle.{met, placeOf}
+use Rattle.triangle.specs.Inner.{writeOf}
+use Rattle.triangle.proofs.Places.{met-more, met-none, met-least}
 use Rattle.linkage.specs.declared.Linkage.{Linkage}
-use Rattle.linkage.specs.Merge.{pair, nothing, better, offer, look, scanRow, scanFrom, scanAll, movable, moved, movedAll}
+use Rattle.linkage.specs.Merge.{pair, nothing, better, offer, look, scanRow, scanFrom, scanAll, both, movable, moved, movedAll}
 use Rattle.linkage.specs.Pairs.{countOne, countRow, countFrom, countAll}
-use Rattle.linkage.specs.Inner.{numbered, meet, meetRow, meetAll, met, drawn, drawnAt}
+use Rattle.linkage.specs.Inner.{numbered, meet, meetRow, meetAll, drawn, drawnAt}
 use Rattle.linkage.proofs.Scan.{In, offer-in}
 use Rattle.linkage.proofs.Front.{numbered-at}
 
 -- what a live slot's update does, and a dead one's
 apart : (l : Linkage) (n : ℕ) (sizes : List Float) (live : List Bool) (x y : ℕ) (dxy : Float) (i : ℕ) (d : List Float)
-    → moved l n sizes live x y dxy i d ≡ cond (getD live i false) (drawn l n sizes x y dxy i d) d
-unfolding moved movable drawn
+    → moved l n sizes live x y dxy i d ≡ cond (getD live i false) (drawn l Square n sizes x y dxy i d) d
+unfolding moved movable both drawn writeOf placeOf
 apart l n sizes live x y dxy i d = ⊎-elim (λ e. rw e refl) (λ e. rw e refl) (either (getD live i false))
 
 -- ---- the first m entries of an array are the packed slots
 
 module _ (n m : ℕ) (slots : List ℕ) (live : List Bool) (fit : m ≤ length slots) (e : take m slots ≡ packed n live) where
   -- the scan
-  pub scan-packed : (d : List Float) (ids : List ℕ) → meetAll n d ids slots m ≡ scanAll n d ids live
+  pub scan-packed : (d : List Float) (ids : List ℕ) → meetAll (cell d n) ids slots m ≡ scanAll n d ids live
   unfolding meetAll meetRow meet scanAll scanFrom scanRow look
   scan-packed d ids =
-      range-same (meetRow n d ids slots m) (placed (scanRow n d ids live) slots) 0 m nothing
+      range-same (meetRow (cell d n) ids slots m) (placed (scanRow n d ids live) slots) 0 m nothing
       (λ i t a b.
       let s = getD slots i 0 in
       by-later n m slots live fit e (λ c. offer s c (cell d n s c) (getD ids s 0) (getD ids c 0)) (look n d ids live s) (λ c u. refl) i t b)
@@ -44,9 +48,9 @@ module _ (n m : ℕ) (slots : List ℕ) (live : List Bool) (fit : m ≤ length s
 
   -- the update
   pub moved-packed : (l : Linkage) (sizes : List Float) (x y : ℕ) (dxy : Float) (d : List Float)
-      → range (drawnAt l n sizes slots x y dxy) 0 m d ≡ movedAll l n sizes live x y dxy d
+      → range (drawnAt l Square n sizes slots x y dxy) 0 m d ≡ movedAll l n sizes live x y dxy d
   unfolding drawnAt movedAll
-  moved-packed l sizes x y dxy d = by-places n m slots live fit e (drawn l n sizes x y dxy) (moved l n sizes live x y dxy) (apart l n sizes live x y dxy) d
+  moved-packed l sizes x y dxy d = by-places n m slots live fit e (drawn l Square n sizes x y dxy) (moved l n sizes live x y dxy) (apart l n sizes live x y dxy) d
 
   -- the count
   pub count-packed : countAll n live ≡ met m m
@@ -55,20 +59,6 @@ module _ (n m : ℕ) (slots : List ℕ) (live : List Bool) (fit : m ≤ length s
       sym (by-places n m slots live fit e (countRow n live) (countFrom n live) (λ c u. refl) 0)
       ∙ range-same (placed (countRow n live) slots) (λ j c. c + (m - (j + 1))) 0 m 0
       (λ i t a b. sym (by-later n m slots live fit e (λ c u. u + 1) (countOne live) (λ c u. refl) i t b) ∙ ones (i + 1) m t)
-
--- the pairs of the first i places of m: m - 1, m - 2, ..
-pub met-more : (m i : ℕ) → met m (i + 1) ≡ met m i + (m - (i + 1))
-unfolding met
-met-more m i = ap (λ (k : ℕ). range (λ j c. c + (m - (j + 1))) 0 k 0) (add-one i) ∙ range-suc (λ j c. c + (m - (j + 1))) 0 i 0 zero-le
-
-pub met-none : (m : ℕ) → met m 0 ≡ 0
-unfolding met
-met-none m = range-none (λ j c. c + (m - (j + 1))) 0 0 0 zero-le
-
--- no more than 64 for each place
-pub met-least : (m i : ℕ) → m ≤ 64 → met m i ≤ 64 * i
-met-least m zero h = omega (arith, met-none m)
-met-least m (suc i) h = let e = met-more m i in let r = met-least m i h in rw (← add-one i) (omega arith)
 
 -- ---- the start: slot k at place k
 
@@ -84,54 +74,54 @@ packed-start (suc n) m h b =
 
 -- ---- the slots of the best pair
 
-module _ (n m : ℕ) (d : List Float) (ids slots : List ℕ) where
-  pub all-in : Below n m slots → 0 < n → In n (meetAll n d ids slots m)
+module _ (n m : ℕ) (d : ℕ → ℕ → Float) (ids slots : List ℕ) where
+  pub all-in : Below n m slots → 0 < n → In n (meetAll d ids slots m)
   unfolding meetAll meetRow meet
   all-in b h =
-      range-keeps (In n) (meetRow n d ids slots m) 0 m nothing (h, h)
-      (λ i t l r p. range-keeps (In n) (meet n d ids slots (getD slots i 0)) (i + 1) m t p (λ j u l′ r′ q. offer-in n (getD slots i 0) (getD slots j 0) (cell d n (getD slots i 0) (getD slots j 0)) (getD ids (getD slots i 0) 0) (getD ids (getD slots j 0) 0) u (b i r) (b j r′) q))
+      range-keeps (In n) (meetRow d ids slots m) 0 m nothing (h, h)
+      (λ i t l r p. range-keeps (In n) (meet d ids slots (getD slots i 0)) (i + 1) m t p (λ j u l′ r′ q. offer-in n (getD slots i 0) (getD slots j 0) (d (getD slots i 0) (getD slots j 0)) (getD ids (getD slots i 0) 0) (getD ids (getD slots j 0) 0) u (b i r) (b j r′) q))
 
 -- ---- the scan, row by row: before row i, the first pair being taken at once
 
-module _ (n : ℕ) (d : List Float) (ids slots : List ℕ) (m : ℕ) where
+module _ (d : ℕ → ℕ → Float) (ids slots : List ℕ) (m : ℕ) where
   unfoldable pub Reached : ℕ → Best → ℕ → ℕ → Type 0
-  Reached zero best c from = (best ≡ meet n d ids slots (getD slots 0 0) 1 nothing) × (c ≡ 1) × (from ≡ 2)
-  Reached (suc i) best c from = (best ≡ range (meetRow n d ids slots m) 0 (suc i) nothing) × (c ≡ met m (suc i)) × (from ≡ suc i + 1)
+  Reached zero best c from = (best ≡ meet d ids slots (getD slots 0 0) 1 nothing) × (c ≡ 1) × (from ≡ 2)
+  Reached (suc i) best c from = (best ≡ range (meetRow d ids slots m) 0 (suc i) nothing) × (c ≡ met m (suc i)) × (from ≡ suc i + 1)
 
   pub reached-start : (best : Best)
-      → best ≡ pair (getD slots 0 0) (getD slots 1 0) (cell d n (getD slots 0 0) (getD slots 1 0)) (min (getD ids (getD slots 0 0) 0) (getD ids (getD slots 1 0) 0)) (max (getD ids (getD slots 0 0) 0) (getD ids (getD slots 1 0) 0))
+      → best ≡ pair (getD slots 0 0) (getD slots 1 0) (d (getD slots 0 0) (getD slots 1 0)) (min (getD ids (getD slots 0 0) 0) (getD ids (getD slots 1 0) 0)) (max (getD ids (getD slots 0 0) 0) (getD ids (getD slots 1 0) 0))
       → Reached 0 best 1 2
   unfolding Reached meet offer better
   reached-start best e = (e, refl, refl)
 
   pub reached-next : (i : ℕ) (best : Best) (c from : ℕ) (best′ : Best) (r : ℕ) → Reached i best c from → i < m → 2 ≤ m
-      → best′ ≡ range (meet n d ids slots (getD slots i 0)) from m best → r + from ≡ m → Reached (i + 1) best′ (c + r) (i + 2)
+      → best′ ≡ range (meet d ids slots (getD slots i 0)) from m best → r + from ≡ m → Reached (i + 1) best′ (c + r) (i + 2)
   unfolding Reached meetRow
   reached-next zero best c from best′ r h l t e q =
-      let f = meet n d ids slots (getD slots 0 0) in
+      let f = meet d ids slots (getD slots 0 0) in
       let b : best′ ≡ range f 2 m best = e ∙ ap (λ (k : ℕ). range f k m best) (h .2) in (
-        b ∙ ap (range f 2 m) (h .0) ∙ sym (range-first f 1 m nothing (omega arith)) ∙ ap (meetRow n d ids slots m 0) (sym (range-none (meetRow n d ids slots m) 0 0 nothing zero-le))
-            ∙ sym (range-suc (meetRow n d ids slots m) 0 0 nothing zero-le),
+        b ∙ ap (range f 2 m) (h .0) ∙ sym (range-first f 1 m nothing (omega arith)) ∙ ap (meetRow d ids slots m 0) (sym (range-none (meetRow d ids slots m) 0 0 nothing zero-le))
+            ∙ sym (range-suc (meetRow d ids slots m) 0 0 nothing zero-le),
         omega (arith, h .1, h .2, met-more m 0, met-none m),
         refl,
       )
   reached-next (suc i) best c from best′ r h l t e q =
       let k = suc i in
-      let f = meet n d ids slots (getD slots k 0) in
+      let f = meet d ids slots (getD slots k 0) in
       let z : k + 1 ≡ suc k = add-one k in
       subst (λ (j : ℕ). Reached j best′ (c + r) (k + 2)) (sym z) (
-        e ∙ ap (λ (j : ℕ). range f j m best) (h .2) ∙ ap (meetRow n d ids slots m k) (h .0) ∙ sym (range-suc (meetRow n d ids slots m) 0 k nothing zero-le),
+        e ∙ ap (λ (j : ℕ). range f j m best) (h .2) ∙ ap (meetRow d ids slots m k) (h .0) ∙ sym (range-suc (meetRow d ids slots m) 0 k nothing zero-le),
         ap (λ (j : ℕ). j + r) (h .1) ∙ omega (arith, h .2, met-more m k) ∙ ap (met m) z,
         omega arith,
       )
 
-  pub reached-low : (i : ℕ) (best : Best) (c from : ℕ) → Reached i best c from → i < m → 2 ≤ m → m ≤ 64 → (from ≤ m) × (c ≤ 4096)
+  pub reached-low : (i : ℕ) (best : Best) (c from : ℕ) → Reached i best c from → i < m → 2 ≤ m → m ≤ 64 → (i < from) × (from ≤ m) × (c ≤ 4096)
   unfolding Reached
-  reached-low zero best c from h l t u = (omega (arith, h .2), omega (arith, h .1))
-  reached-low (suc i) best c from h l t u = (omega (arith, h .2), omega (arith, h .1, met-least m (suc i) u))
+  reached-low zero best c from h l t u = (omega (arith, h .2), omega (arith, h .2), omega (arith, h .1))
+  reached-low (suc i) best c from h l t u = (omega (arith, h .2), omega (arith, h .2), omega (arith, h .1, met-least m (suc i) u))
 
-  pub reached-end : (i : ℕ) (best : Best) (c from : ℕ) → Reached i best c from → i ≡ m → 2 ≤ m → (best ≡ meetAll n d ids slots m) × (c ≡ met m m)
+  pub reached-end : (i : ℕ) (best : Best) (c from : ℕ) → Reached i best c from → i ≡ m → 2 ≤ m → (best ≡ meetAll d ids slots m) × (c ≡ met m m)
   unfolding Reached meetAll
   reached-end zero best c from h e t = absurd (omega arith)
   reached-end (suc i) best c from h e t =
-      (h .0 ∙ ap (λ (k : ℕ). range (meetRow n d ids slots m) 0 k nothing) e, h .1 ∙ ap (met m) e)
+      (h .0 ∙ ap (λ (k : ℕ). range (meetRow d ids slots m) 0 k nothing) e, h .1 ∙ ap (met m) e)

@@ -1,19 +1,22 @@
--- What the private functions ask of one another and promise: may be skipped. The scan and the update over the places of the packed slots
--- (proofs/Packed.antt has that they are those of specs/Merge.antt), and the arrays as a state. Definitions only.
-use Prim.Native.Nat.{ℕ, _+_, _-_}
+-- What the private functions ask of one another and promise: may be skipped. The scan and the update over the places of the packed slots, whatever form the
+-- distances are held in (proofs/Packed.antt and proofs/Forms.antt have that they are those of specs/Merge.antt), and the arrays as a state. Definitions only.
+use Prim.Native.Nat.{ℕ, _+_}
 use mathlib.Core.Path.{_≡_}
-use mathlib.Core.Bool.{Bool, not, _&&_, cond}
+use mathlib.Core.Bool.{Bool, true, false, not, _&&_, cond}
 use mathlib.Core.List.{List}
 use lib.Dec.{eqb}
 use lib.ListN.{getD, set}
 use lib.Ieee.{Float, nan}
-use Rattle.lent.specs.Grid.{cell}
 use Rattle.lent.specs.Range.{range}
 use Rattle.pairing.specs.declared.Best.{Best}
 use Rattle.pairing.specs.Pairing.{nothing, offer}
 use Rattle.slots.specs.Inner.{packed}
+use Rattle.triangle.specs.declared.Form.{Form}
+use Rattle.triangle.specs.Inner.{readOf, writeOf, Holds}
 use Rattle.linkage.specs.declared.Linkage.{Linkage}
-use Rattle.linkage.specs.Merge.{State, both, updateF}
+use Rattle.linkage.specs.declared.Tried.{Tried}
+use Rattle.linkage.specs.declared.Tried.the-variants.{Made, Lopsided}
+use Rattle.linkage.specs.Merge.{State, updateF}
 
 -- what a function holds in its arrays, as one state
 abbrev pub state : List Float → List ℕ → List Bool → List Float → List ℕ → State
@@ -23,38 +26,39 @@ state d i v z r = record { cells = d; ids = i; live = v; sizes = z; rows = r }
 unfoldable pub numbered : ℕ → List ℕ → List ℕ
 numbered k ids = set ids k k
 
--- the pair of slot a and the slot at place j; the pairs of the slot at place i with those after it; all pairs of m places
-unfoldable pub meet : ℕ → List Float → List ℕ → List ℕ → ℕ → ℕ → Best → Best
-meet n d ids slots a j best =
-    offer a (getD slots j 0) (cell d n a (getD slots j 0)) (getD ids a 0) (getD ids (getD slots j 0) 0) best
+-- the pair of slot a and the slot at place j, the distance between a and b being d a b; the pairs of the slot at place i with those after it; all pairs of m places
+unfoldable pub meet : (ℕ → ℕ → Float) → List ℕ → List ℕ → ℕ → ℕ → Best → Best
+meet d ids slots a j best = offer a (getD slots j 0) (d a (getD slots j 0)) (getD ids a 0) (getD ids (getD slots j 0) 0) best
 
-unfoldable pub meetRow : ℕ → List Float → List ℕ → List ℕ → ℕ → ℕ → Best → Best
+unfoldable pub meetRow : (ℕ → ℕ → Float) → List ℕ → List ℕ → ℕ → ℕ → Best → Best
 unfolding meet
-meetRow n d ids slots m i best = range (meet n d ids slots (getD slots i 0)) (i + 1) m best
+meetRow d ids slots m i best = range (meet d ids slots (getD slots i 0)) (i + 1) m best
 
-unfoldable pub meetAll : ℕ → List Float → List ℕ → List ℕ → ℕ → Best
+unfoldable pub meetAll : (ℕ → ℕ → Float) → List ℕ → List ℕ → ℕ → Best
 unfolding meetRow
-meetAll n d ids slots m = range (meetRow n d ids slots m) 0 m nothing
-
--- the pairs of the first i places of m with those after them
-unfoldable pub met : ℕ → ℕ → ℕ
-met m i = range (λ j c. c + (m - (j + 1))) 0 i 0
+meetAll d ids slots m = range (meetRow d ids slots m) 0 m nothing
 
 -- the distance of a live slot i, and of the slot at place j
-unfoldable pub drawn : Linkage → ℕ → List Float → ℕ → ℕ → Float → ℕ → List Float → List Float
-drawn l n sizes x y dxy i d =
+unfoldable pub drawn : Linkage → Form → ℕ → List Float → ℕ → ℕ → Float → ℕ → List Float → List Float
+unfolding writeOf
+drawn l form n sizes x y dxy i d =
     cond (not (eqb i x) && not (eqb i y))
-    (both n x i (updateF l (cell d n x i) (cell d n y i) dxy (getD sizes x nan) (getD sizes y nan) (getD sizes i nan)) d)
+    (writeOf form n x i (updateF l (readOf form n d x i) (readOf form n d y i) dxy (getD sizes x nan) (getD sizes y nan) (getD sizes i nan)) d)
     d
 
-unfoldable pub drawnAt : Linkage → ℕ → List Float → List ℕ → ℕ → ℕ → Float → ℕ → List Float → List Float
+unfoldable pub drawnAt : Linkage → Form → ℕ → List Float → List ℕ → ℕ → ℕ → Float → ℕ → List Float → List Float
 unfolding drawn
-drawnAt l n sizes slots x y dxy j d = drawn l n sizes x y dxy (getD slots j 0) d
+drawnAt l form n sizes slots x y dxy j d = drawn l form n sizes x y dxy (getD slots j 0) d
 
 -- what stands in the arrays is the state s, whose live slots are packed
-pub record Stands (n : ℕ) (s : State) (d : List Float) (ids slots : List ℕ) (sizes : List Float) (rows : List ℕ) : Type 0 where
-  pub cells : d ≡ s .cells
+pub record Stands (form : Form) (n : ℕ) (s : State) (d : List Float) (ids slots : List ℕ) (sizes : List Float) (rows : List ℕ) : Type 0 where
+  pub cells : Holds form n d (s .cells)
   pub names : ids ≡ s .ids
   pub places : slots ≡ packed n (s .live)
   pub counts : sizes ≡ s .sizes
   pub made : rows ≡ s .rows
+
+-- what the triangle gives: the pairs, where every cell is its mirror
+unfoldable pub triedOf : Bool → ℕ → Tried
+triedOf true pairs = Made pairs
+triedOf false pairs = Lopsided

@@ -6,21 +6,23 @@ use refusal::Outcome;
 use refusal::Refusal;
 use tree::Asset;
 use tree::Node;
+use triangle::Form;
 ghost use mathlib.Core.List.{List, [], _∷_, _++_};
 ghost use mathlib.Core.Path.{_≡_};
-ghost use mathlib.Core.Bool.{Bool};
+ghost use mathlib.Core.Bool.{Bool, cond};
 ghost use Prim.Native.Nat.{_+_, _-_, _*_, _<_, _≤_};
-ghost use lib.ListN.{length, take, drop, replicate, getD};
-ghost use lib.Ieee.{Float};
-ghost use Rattle.arithmetic.specs.Constants.{unit};
+ghost use lib.ListN.{length, take, drop, getD};
+ghost use lib.Ieee.{Float, nan};
 ghost use Rattle.refusal.specs.Table.{first};
-ghost use Rattle.lent.specs.Grid.{cell, over, zeros};
+ghost use Rattle.lent.specs.Grid.{over, zeros};
 ghost use Rattle.lent.specs.Range.{range};
-ghost use Rattle.slots.specs.Inner.{packed, Below};
+ghost use Rattle.slots.specs.Inner.{packed, Below, Rising};
+ghost use Rattle.triangle.specs.Triangle.{met, placeOf, mirrored};
+ghost use Rattle.triangle.specs.Inner.{roomOf, readOf, writeOf, Lined, Holds};
 ghost use Rattle.linkage.specs.Names.{distanceNamed, linkageNamed};
-ghost use Rattle.linkage.specs.Merge.{wardF, updateF, both, step, copied, mergeRows};
+ghost use Rattle.linkage.specs.Merge.{wardF, updateF, step, copied, mergeRows};
 ghost use Rattle.linkage.specs.Pairs.{pairsVisited};
-ghost use Rattle.linkage.specs.Inner.{state, numbered, meet, meetAll, met, drawn, drawnAt, Stands};
+ghost use Rattle.linkage.specs.Inner.{state, numbered, meet, meetAll, drawn, drawnAt, Stands, triedOf};
 ghost use Rattle.linkage.specs.Children.{childrenTable, childrenAnswer, childrenRows};
 
 pub enum Distance {
@@ -55,6 +57,12 @@ pub enum Joined {
 struct Looked {
     best: Best,
     pairs: usize,
+}
+
+// What the triangle gave: the pairs looked at, or nothing, where some cell is not its mirror.
+enum Tried {
+    Made(usize),
+    Lopsided,
 }
 
 pub fn distance_named(name: &[u8]) -> NamedDistance
@@ -118,17 +126,45 @@ fn merges(n: usize) -> usize
     if n == 0 { 0 } else { n - 1 }
 }
 
-fn at(d: &[f64; 4096], n: usize, r: usize, c: usize) -> f64
-    requires { ⌜ (n ≤ 64) × (r < n) × (c < n) ⌝ }
-    ensures { λ x. ⌜ x ≡ cell (now (d .entry)) n r c ⌝ }
+// Where the distance between slots r and c stands: the one accessor that knows the form.
+fn place(form: Form, shifts: &[usize; 64], n: usize, r: usize, c: usize) -> usize
+    requires { ⌜ (n ≤ 64) × (r < n) × (c < n) × (r ≡ c → ⊥) × Lined form n (now shifts) ⌝ }
+    ensures { λ k. ⌜ k ≡ placeOf form n r c ⌝ }
 {
-    d[r * n + c]
+    match form {
+        Form::Square => r * n + c,
+        Form::Triangle => {
+            if r < c {
+                shifts[r] + (c - 1)
+            } else {
+                shifts[c] + (r - 1)
+            }
+        }
+    }
+}
+
+fn at(form: Form, shifts: &[usize; 64], d: &[f64], n: usize, r: usize, c: usize) -> f64
+    requires { ⌜ (n ≤ 64) × (r < n) × (c < n) × (r ≡ c → ⊥) × Lined form n (now shifts) × (roomOf form n ≤ length (now d)) ⌝ }
+    ensures { λ x. ⌜ x ≡ readOf form n (now (d .entry)) r c ⌝ }
+{
+    let k = place(form, shifts, n, r, c);
+    d[k]
+}
+
+// The distance to slot b in a row cut off at its shift.
+fn right(row: &[f64], b: usize) -> f64
+    requires { ⌜ (0 < b) × (b - 1 < length (now row)) ⌝ }
+    ensures { λ x. ⌜ x ≡ getD (now (row .entry)) (b - 1) nan ⌝ }
+{
+    row[b - 1]
 }
 
 // The pairs of the slot at place i with those at places `from` to m - 1.
 fn scan_row(
+    form: Form,
+    shifts: &[usize; 64],
     n: usize,
-    d: &[f64; 4096],
+    d: &[f64],
     ids: &[usize; 64],
     slots: &[usize; 64],
     m: usize,
@@ -136,34 +172,52 @@ fn scan_row(
     from: usize,
     first: Best,
 ) -> Looked
-    requires { ⌜ (n ≤ 64) × (m ≤ 64) × (i < m) × (from ≤ m) × Below n m (now slots) ⌝ }
-    ensures { λ r. ⌜ (r .best ≡ range (meet n (now (d .entry)) (now (ids .entry)) (now (slots .entry)) (getD (now (slots .entry)) i 0)) from m first)
+    requires { ⌜ (n ≤ 64) × (m ≤ 64) × (i < from) × (i < m) × (from ≤ m) × Below n m (now slots) × Rising m (now slots) × Lined form n (now shifts)
+        × (roomOf form n ≤ length (now d)) ⌝ }
+    ensures { λ r. ⌜ (r .best ≡ range (meet (readOf form n (now (d .entry))) (now (ids .entry)) (now (slots .entry)) (getD (now (slots .entry)) i 0)) from m first)
         × (r .pairs + from ≡ m) ⌝ }
 {
     let a = slots[i];
     let p = Node(ids[a]);
+    let shift = shifts[a];
+    let row = &d[shift..]; // cut off once, so that a pair costs no addition
     let mut best = first;
     let mut seen = 0usize;
     for j in from..m {
         let b = slots[j];
-        best = pairing::offered(Slot(a), Slot(b), at(d, n, a, b), p, Node(ids[b]), best);
+        best = pairing::offered(Slot(a), Slot(b), right(row, b), p, Node(ids[b]), best);
         seen = seen + 1;
     }
     Looked { best, pairs: seen }
 }
 
 // The pairs of the slots at m places, in order. The first is taken before the rows, so that no row asks whether there is a best.
-fn scan_all(n: usize, d: &[f64; 4096], ids: &[usize; 64], slots: &[usize; 64], m: usize) -> Looked
-    requires { ⌜ (n ≤ 64) × (2 ≤ m) × (m ≤ 64) × Below n m (now slots) ⌝ }
-    ensures { λ r. ⌜ (r .best ≡ meetAll n (now (d .entry)) (now (ids .entry)) (now (slots .entry)) m) × (r .pairs ≡ met m m) ⌝ }
+fn scan_all(
+    form: Form,
+    shifts: &[usize; 64],
+    n: usize,
+    d: &[f64],
+    ids: &[usize; 64],
+    slots: &[usize; 64],
+    m: usize,
+) -> Looked
+    requires { ⌜ (n ≤ 64) × (2 ≤ m) × (m ≤ 64) × Below n m (now slots) × Rising m (now slots) × Lined form n (now shifts)
+        × (roomOf form n ≤ length (now d)) ⌝ }
+    ensures { λ r. ⌜ (r .best ≡ meetAll (readOf form n (now (d .entry))) (now (ids .entry)) (now (slots .entry)) m) × (r .pairs ≡ met m m) ⌝ }
 {
     let a = slots[0];
     let b = slots[1];
-    let mut best = pairing::paired(Slot(a), Slot(b), at(d, n, a, b), Node(ids[a]), Node(ids[b]));
+    let mut best = pairing::paired(
+        Slot(a),
+        Slot(b),
+        at(form, shifts, d, n, a, b),
+        Node(ids[a]),
+        Node(ids[b]),
+    );
     let mut pairs = 1;
     let mut from = 2;
     for i in 0..m {
-        let row = scan_row(n, d, ids, slots, m, i, from, best);
+        let row = scan_row(form, shifts, n, d, ids, slots, m, i, from, best);
         best = row.best;
         pairs = pairs + row.pairs;
         from = i + 2;
@@ -171,27 +225,32 @@ fn scan_all(n: usize, d: &[f64; 4096], ids: &[usize; 64], slots: &[usize; 64], m
     Looked { best, pairs }
 }
 
-// The distance between slots x and i, in both cells.
-fn put_both(d: &mut [f64; 4096], n: usize, x: usize, i: usize, v: f64)
-    requires { ⌜ (n ≤ 64) × (x < n) × (i < n) ⌝ }
-    ensures { λ _. ⌜ now (d .exit) ≡ both n x i v (now (d .entry)) ⌝ }
+// The distance between slots x and i: in both cells, or in their one place.
+fn put_both(form: Form, shifts: &[usize; 64], d: &mut [f64], n: usize, x: usize, i: usize, v: f64)
+    requires { ⌜ (n ≤ 64) × (x < n) × (i < n) × (x ≡ i → ⊥) × Lined form n (now shifts) × (roomOf form n ≤ length (now d)) ⌝ }
+    ensures { λ _. ⌜ now (d .exit) ≡ writeOf form n x i v (now (d .entry)) ⌝ }
 {
-    d[x * n + i] = v;
-    d[i * n + x] = v;
+    let k = place(form, shifts, n, x, i);
+    d[k] = v;
+    if let Form::Square = form {
+        d[i * n + x] = v;
+    }
 }
 
 fn move_one(
     method: Linkage,
+    form: Form,
+    shifts: &[usize; 64],
     n: usize,
-    d: &mut [f64; 4096],
+    d: &mut [f64],
     sizes: &[f64; 64],
     x: Slot,
     y: Slot,
     d_xy: f64,
     other: Slot,
 )
-    requires { ⌜ (n ≤ 64) × (x .0 < n) × (y .0 < n) × (other .0 < n) ⌝ }
-    ensures { λ _. ⌜ now (d .exit) ≡ drawn method n (now (sizes .entry)) (x .0) (y .0) «d_xy» (other .0) (now (d .entry)) ⌝ }
+    requires { ⌜ (n ≤ 64) × (x .0 < n) × (y .0 < n) × (other .0 < n) × Lined form n (now shifts) × (roomOf form n ≤ length (now d)) ⌝ }
+    ensures { λ _. ⌜ now (d .exit) ≡ drawn method form n (now (sizes .entry)) (x .0) (y .0) «d_xy» (other .0) (now (d .entry)) ⌝ }
 {
     let p = x.0;
     let q = y.0;
@@ -199,22 +258,24 @@ fn move_one(
     if i != p {
         if i != q {
             let v = method.update(
-                at(d, n, p, i),
-                at(d, n, q, i),
+                at(form, shifts, d, n, p, i),
+                at(form, shifts, d, n, q, i),
                 d_xy,
                 sizes[p],
                 sizes[q],
                 sizes[i],
             );
-            put_both(d, n, p, i, v);
+            put_both(form, shifts, d, n, p, i, v);
         }
     }
 }
 
 fn move_all(
     method: Linkage,
+    form: Form,
+    shifts: &[usize; 64],
     n: usize,
-    d: &mut [f64; 4096],
+    d: &mut [f64],
     sizes: &[f64; 64],
     slots: &[usize; 64],
     m: usize,
@@ -222,11 +283,23 @@ fn move_all(
     y: Slot,
     d_xy: f64,
 )
-    requires { ⌜ (n ≤ 64) × (m ≤ 64) × (x .0 < n) × (y .0 < n) × Below n m (now slots) ⌝ }
-    ensures { λ _. ⌜ now (d .exit) ≡ range (drawnAt method n (now (sizes .entry)) (now (slots .entry)) (x .0) (y .0) «d_xy») 0 m (now (d .entry)) ⌝ }
+    requires { ⌜ (n ≤ 64) × (m ≤ 64) × (x .0 < n) × (y .0 < n) × Below n m (now slots) × Lined form n (now shifts)
+        × (roomOf form n ≤ length (now d)) ⌝ }
+    ensures { λ _. ⌜ now (d .exit) ≡ range (drawnAt method form n (now (sizes .entry)) (now (slots .entry)) (x .0) (y .0) «d_xy») 0 m (now (d .entry)) ⌝ }
 {
     for j in 0..m {
-        move_one(method, n, d, sizes, x, y, d_xy, Slot(slots[j]));
+        move_one(
+            method,
+            form,
+            shifts,
+            n,
+            d,
+            sizes,
+            x,
+            y,
+            d_xy,
+            Slot(slots[j]),
+        );
     }
 }
 
@@ -243,29 +316,31 @@ fn put_row(rows: &mut [usize], k: usize, lo: Node, hi: Node)
 // Row k: the best pair of the slots at m places is merged. Rows 0 to k - 1 stand in the first 2k entries. The answer is the pairs looked at.
 fn step_once(
     method: Linkage,
+    form: Form,
+    shifts: &[usize; 64],
     n: usize,
     k: usize,
     m: usize,
-    d: &mut [f64; 4096],
+    d: &mut [f64],
     ids: &mut [usize; 64],
     slots: &mut [usize; 64],
     sizes: &mut [f64; 64],
     rows: &mut [usize],
 ) -> usize
-    requires { ⌜ (n ≤ 64) × (k < n) × (2 ≤ m) × (m ≤ 64) × Below n m (now slots) × (length (now slots) ≡ 64)
-        × (2 * k + 1 < length (now rows)) ⌝ }
-    ensures { λ r. ⌜ ((live : List Bool) → n ≤ length live → take m (now (slots .entry)) ≡ packed n live
-        → Stands n (step method n k (state (now (d .entry)) (now (ids .entry)) live (now (sizes .entry)) (take (2 * k) (now (rows .entry)))))
+    requires { ⌜ (n ≤ 64) × (k < n) × (2 ≤ m) × (m ≤ 64) × Below n m (now slots) × Rising m (now slots) × (length (now slots) ≡ 64)
+        × (2 * k + 1 < length (now rows)) × Lined form n (now shifts) × (roomOf form n ≤ length (now d)) ⌝ }
+    ensures { λ r. ⌜ ((cells : List Float) (live : List Bool) → Holds form n (now (d .entry)) cells → n ≤ length live → take m (now (slots .entry)) ≡ packed n live
+        → Stands form n (step method n k (state cells (now (ids .entry)) live (now (sizes .entry)) (take (2 * k) (now (rows .entry)))))
         (now (d .exit)) (now (ids .exit)) (take (m - 1) (now (slots .exit))) (now (sizes .exit)) (take (2 * (k + 1)) (now (rows .exit))))
         × (drop (2 * (k + 1)) (now (rows .exit)) ≡ drop (2 * (k + 1)) (now (rows .entry)))
         × (length (now (slots .exit)) ≡ 64)
         × (r ≡ met m m) ⌝ }
 {
-    let looked = scan_all(n, d, ids, slots, m);
+    let looked = scan_all(form, shifts, n, d, ids, slots, m);
     let best = looked.best;
     let x = best.a;
     let y = best.b;
-    move_all(method, n, d, sizes, slots, m, x, y, best.dist);
+    move_all(method, form, shifts, n, d, sizes, slots, m, x, y, best.dist);
     let p = x.0;
     let q = y.0;
     let merged = Node(n + k);
@@ -303,31 +378,69 @@ fn number(ids: &mut [usize; 64])
     }
 }
 
-// The n - 1 steps, from arrays that are all zero and sizes that are all 1. The answer is the pairs looked at.
+// The n - 1 steps, from distances that are held already. The answer is the pairs looked at.
 fn steps(
     method: Linkage,
+    form: Form,
     n: usize,
     xs: &[f64],
-    d: &mut [f64; 4096],
-    ids: &mut [usize; 64],
-    slots: &mut [usize; 64],
-    sizes: &mut [f64; 64],
+    d: &mut [f64],
     rows: &mut [usize],
 ) -> usize
-    requires { ⌜ (n ≤ 64) × (length (now xs) ≡ n * n) × (2 * (n - 1) ≤ length (now rows)) × (now d ≡ zeros 4096) × (now ids ≡ replicate 64 0)
-        × (now slots ≡ replicate 64 0) × (now sizes ≡ replicate 64 unit) ⌝ }
+    requires { ⌜ (n ≤ 64) × Holds form n (now d) (range (copied (now xs)) 0 (n * n) (zeros 4096)) × (2 * (n - 1) ≤ length (now rows)) ⌝ }
     ensures { λ r. ⌜ (take (2 * (n - 1)) (now (rows .exit)) ≡ mergeRows method n (now (xs .entry)))
         × (drop (2 * (n - 1)) (now (rows .exit)) ≡ drop (2 * (n - 1)) (now (rows .entry)))
         × (r ≡ pairsVisited method n (now (xs .entry))) ⌝ }
 {
-    fill(xs, d, n * n);
-    number(ids);
-    number(slots);
+    let mut ids = [0usize; 64];
+    let mut slots = [0usize; 64];
+    let mut shifts = [0usize; 64];
+    let mut sizes = [1.0; 64];
+    number(&mut ids);
+    number(&mut slots);
+    triangle::shifts(form, n, &mut shifts);
     let mut pairs = 0;
     for k in 0..merges(n) {
-        pairs = pairs + step_once(method, n, k, n - k, d, ids, slots, sizes, rows);
+        pairs = pairs
+            + step_once(
+                method,
+                form,
+                &shifts,
+                n,
+                k,
+                n - k,
+                d,
+                &mut ids,
+                &mut slots,
+                &mut sizes,
+                rows,
+            );
     }
     pairs
+}
+
+// The rows from every cell, in a working matrix of 4,096.
+fn in_square(method: Linkage, n: usize, xs: &[f64], rows: &mut [usize]) -> usize
+    requires { ⌜ (n ≤ 64) × (length (now xs) ≡ n * n) × (2 * (n - 1) ≤ length (now rows)) ⌝ }
+    ensures { λ r. ⌜ (now (rows .exit) ≡ over (mergeRows method n (now (xs .entry))) (now (rows .entry))) × (r ≡ pairsVisited method n (now (xs .entry))) ⌝ }
+{
+    let mut d = [0.0; 4096];
+    fill(xs, &mut d, n * n);
+    steps(method, Form::Square, n, xs, &mut d, rows)
+}
+
+// The same rows from the cells above the diagonal, 2,016 at most, where each is its mirror.
+fn in_triangle(method: Linkage, n: usize, xs: &[f64], rows: &mut [usize]) -> Tried
+    requires { ⌜ (n ≤ 64) × (length (now xs) ≡ n * n) × (2 * (n - 1) ≤ length (now rows)) ⌝ }
+    ensures { λ r. ⌜ (r ≡ triedOf (mirrored n (now (xs .entry))) (pairsVisited method n (now (xs .entry))))
+        × (now (rows .exit) ≡ cond (mirrored n (now (xs .entry))) (over (mergeRows method n (now (xs .entry))) (now (rows .entry))) (now (rows .entry))) ⌝ }
+{
+    let mut d = [0.0; 2016];
+    if !triangle::above(xs, n, &mut d) {
+        return Tried::Lopsided;
+    }
+    let pairs = steps(method, Form::Triangle, n, xs, &mut d, rows);
+    Tried::Made(pairs)
 }
 
 // The merge rows of n assets over the front of rows. The answer is the pairs looked at.
@@ -335,20 +448,10 @@ fn merge_rows(method: Linkage, n: usize, xs: &[f64], rows: &mut [usize]) -> usiz
     requires { ⌜ (n ≤ 64) × (length (now xs) ≡ n * n) × (2 * (n - 1) ≤ length (now rows)) ⌝ }
     ensures { λ r. ⌜ (now (rows .exit) ≡ over (mergeRows method n (now (xs .entry))) (now (rows .entry))) × (r ≡ pairsVisited method n (now (xs .entry))) ⌝ }
 {
-    let mut d = [0.0; 4096];
-    let mut ids = [0usize; 64];
-    let mut slots = [0usize; 64];
-    let mut sizes = [1.0; 64];
-    steps(
-        method,
-        n,
-        xs,
-        &mut d,
-        &mut ids,
-        &mut slots,
-        &mut sizes,
-        rows,
-    )
+    match in_triangle(method, n, xs, rows) {
+        Tried::Made(pairs) => pairs,
+        Tried::Lopsided => in_square(method, n, xs, rows),
+    }
 }
 
 fn judge(len: usize, rows: usize, columns: usize, room: usize) -> Outcome

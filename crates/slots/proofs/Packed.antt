@@ -16,7 +16,7 @@ use Rattle.lent.specs.Range.{span, range}
 use Rattle.lent.proofs.Laws.{either, same-or-not}
 use Rattle.lent.proofs.Range.{range-none, range-more, range-suc, range-same}
 use Rattle.slots.specs.Slots.{without}
-use Rattle.slots.specs.Inner.{packed, Below}
+use Rattle.slots.specs.Inner.{packed, Below, Rising}
 
 -- the slot at each place, one after the other
 abbrev pub placed : {S : Type 0} → (ℕ → S → S) → List ℕ → ℕ → S → S
@@ -80,6 +80,33 @@ packed-below (suc n) live j h =
     let q = packed-dead n live e in
     let r = packed-below n live j (subst (λ (l : List ℕ). j < length l) q h) in
     subst (λ (l : List ℕ). getD l j 0 < suc n) (sym q) (omega arith))
+    (either (getD live n false))
+
+-- they rise
+packed-rising : (n : ℕ) (live : List Bool) (i j : ℕ) → i < j → j < length (packed n live) → getD (packed n live) i 0 < getD (packed n live) j 0
+packed-rising zero live i j l h = absurd (no j (subst (λ (p : List ℕ). j < length p) (packed-none live) h))
+  where
+    no : (j : ℕ) → j < 0 → ⊥
+    no j l = omega arith
+packed-rising (suc n) live i j l h =
+    let p = packed n live in
+    ⊎-elim
+    (λ e.
+    let q = packed-live n live e in
+    let b : j < length p + 1 = subst (λ (k : ℕ). j < k) (ap length q ∙ length-append p (n ∷ [])) h in
+    subst (λ (s : List ℕ). getD s i 0 < getD s j 0) (sym q)
+    (⊎-elim
+    (λ z.
+    let lt : i < length p = omega arith in
+    let a : getD (p ++ (n ∷ [])) j 0 ≡ n = ap (λ (k : ℕ). getD (p ++ (n ∷ [])) k 0) z ∙ getD-append-seam p n [] 0 in
+    rw (List·getD-append p (n ∷ []) 0 i lt, a) (packed-below n live i lt))
+    (λ k.
+    let lt : i < length p = omega arith in
+    rw (List·getD-append p (n ∷ []) 0 i lt, List·getD-append p (n ∷ []) 0 j k) (packed-rising n live i j l k))
+    (eq-or-lt-of-le (le-of-suc-le-suc (subst (λ (k : ℕ). j < k) (add-one (length p)) b)))))
+    (λ e.
+    let q = packed-dead n live e in
+    subst (λ (s : List ℕ). getD s i 0 < getD s j 0) (sym q) (packed-rising n live i j l (subst (λ (s : List ℕ). j < length s) q h)))
     (either (getD live n false))
 
 -- a loop over all slots that does something at the live ones alone, by places
@@ -169,6 +196,11 @@ module _ (n m : ℕ) (slots : List ℕ) (live : List Bool) (fit : m ≤ length s
 
   pub slots-below : Below n m slots
   slots-below j h = rw (slot-at j h) (packed-below n live j (subst (λ (k : ℕ). j < k) as-many h))
+
+  pub slots-rising : Rising m slots
+  slots-rising i j l h =
+      let k : i < m = omega arith in
+      rw (slot-at i k, slot-at j h) (packed-rising n live i j l (subst (λ (k : ℕ). j < k) as-many h))
 
   pub by-places : {S : Type 0} (g f : ℕ → S → S) → ((a : ℕ) (t : S) → f a t ≡ cond (getD live a false) (g a t) t) → (s : S)
       → range (placed g slots) 0 m s ≡ range f 0 n s

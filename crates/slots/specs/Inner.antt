@@ -12,3 +12,7 @@ packed (suc n) live = packed n live ++ cond (getD live n false) (n ∷ []) []
 -- the first m entries are slots of n assets
 abbrev pub Below : ℕ → ℕ → List ℕ → Type 0
 Below n m slots = (j : ℕ) → j < m → getD slots j 0 < n
+
+-- and they rise
+abbrev pub Rising : ℕ → List ℕ → Type 0
+Rising m slots = (i j : ℕ) → i < j → j < m → getD slots i 0 < getD slots j 0

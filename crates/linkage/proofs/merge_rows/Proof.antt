@@ -1,24 +1,51 @@
 -- `linkage::merge_rows` meets its contract. Assumes nothing.
-use Prim.Native.Nat.{_-_, _*_}
+use mathlib.Core.Path.{ap, _∙_}
+use mathlib.Core.List.{List}
+use Prim.Native.Nat.{ℕ}
 use denote.Ref.{now}
-use Rattle.linkage.proofs.Laws.{over-parts}
-use Rattle.linkage.proofs.Rows.{rows-length}
+use Rattle.lent.specs.Grid.{over}
+use Rattle.linkage.specs.Merge.{mergeRows}
+use Rattle.linkage.proofs.Forms.{tried-made, tried-lopsided}
 use borrow.Author.Needs.{needs}
 use Rattle.linkage.proofs.merge_rows.Statement.{statement}
 use Rattle.linkage.proofs.merge_rows.Tie as tie
 
-steps-requires : tie.Need-steps-requires
-steps-requires c κs = search needs
+in-triangle-requires : tie.Need-in-triangle-requires
+in-triangle-requires c κs = search needs
+
+enum-known-pairs : tie.Need-enum-known-pairs
+enum-known-pairs c = search needs
+
+enum-told : tie.Need-enum-told
+enum-told c = search needs
+
+in-square-requires : tie.Need-in-square-requires
+in-square-requires c κs = search needs
 
 same-length : tie.Need-same-length
 same-length c = search needs
 
 returns : tie.Need-returns
-returns c =
-    let g = c .before .before .before .before .before .before .before .before .before .before .args in (
-      over-parts (c .before .before .steps .last .1 .1 .1 .1 .1 .1 .1 .0) _ (now (g .rows)) (2 * (g .n - 1)) (rows-length (g .method) (g .n) (now (g .xs)) (c .before .before .before .before .before .before .before .before .before .before .pre .0)) (c .before .before .steps .ensures .0) (c .before .before .steps .ensures .1),
-      c .before .before .steps .ensures .2,
-    )
+returns c = tried-made _ _ _ _ _ _ _ (c .before .before .before .before .before .in-triangle .ensures .0) (c .before .pairs .given .1) (c .before .before .before .before .before .in-triangle .ensures .1)
+
+same-length-2 : tie.Need-same-length-2
+same-length-2 c = search needs
+
+returns-2 : tie.Need-returns-2
+returns-2 c =
+    let g = c .before .before .before .before .before .before .before .before .before .before .before .before .args in
+    let e = tried-lopsided _ _ _ _ _ _ (c .before .before .before .before .before .before .before .before .in-triangle .ensures .0) (c .before .before .before .before .enum-told .given .1) (c .before .before .before .before .before .before .before .before .in-triangle .ensures .1) in
+    (c .before .before .in-square .ensures .0 ∙ ap (λ (r : List ℕ). over (mergeRows (g .method) (g .n) (now (g .xs))) r) e, c .before .before .in-square .ensures .1)
 
 pub merge-rows-spec : {M : Type 1} → statement M
-merge-rows-spec = tie.close (tie.spec steps-requires same-length returns)
+merge-rows-spec =
+    tie.close
+    (tie.spec
+    in-triangle-requires
+    enum-known-pairs
+    enum-told
+    in-square-requires
+    same-length
+    returns
+    same-length-2
+    returns-2)

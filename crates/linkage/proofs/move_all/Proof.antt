@@ -1,32 +1,36 @@
--- `linkage::move_all` meets its contract. The invariant: the slots at the places below j are moved. Assumes nothing.
+-- `linkage::move_all` meets its contract. The invariant: the slots at the places below j are moved, and there are as many distances as there were. Assumes nothing.
 use borrow.Author.Needs.{needs}
 use native.Mathlib.Omega.{arith}
 use Prim.Native.Nat.{_-_, _≤_}
-use mathlib.Core.Path.{_≡_, sym, ap, _∙_}
+use mathlib.Core.Path.{_≡_, refl, sym, ap, _∙_}
 use denote.Ref.{now}
+use lib.ListN.{length, getD}
 use Rattle.lent.specs.Range.{range}
 use Rattle.lent.proofs.Range.{range-none, range-more, range-end}
 use Rattle.linkage.specs.Inner.{drawnAt}
+use Rattle.linkage.proofs.Forms.{length-drawn}
 use Rattle.linkage.proofs.move_all.Statement.{statement}
 use Rattle.linkage.proofs.move_all.Tie as tie
 
 abbrev Inv-loop : tie.InvT-loop
-Inv-loop method n d₀ sizes slots m x y d-xy j₀ d j = (j ≤ m) × (d ≡ range (drawnAt method n sizes slots (x .0) (y .0) d-xy) 0 j d₀)
+Inv-loop method form shifts n d₀ sizes slots m x y d-xy j₀ d j = (j ≤ m) × (d ≡ range (drawnAt method form n sizes slots (x .0) (y .0) d-xy) 0 j d₀) × (length d ≡ length d₀)
 
 abbrev μ-loop : tie.MeasureT-loop
-μ-loop method n d₀ sizes slots m x y d-xy j₀ d j = m - j
+μ-loop method form shifts n d₀ sizes slots m x y d-xy j₀ d j = m - j
 
 loop-holds : tie.Need-loop-holds Inv-loop μ-loop
-loop-holds c = (search needs, sym (range-none _ _ _ _ (search needs)))
+loop-holds c = (search needs, sym (range-none _ _ _ _ (search needs)), refl)
 
-mul-t14 : tie.Need-mul-t14 Inv-loop μ-loop
-mul-t14 c = omega arith
+mul-t17 : tie.Need-mul-t17 Inv-loop μ-loop
+mul-t17 c = omega arith
 
-element-copy-out-t17 : tie.Need-element-copy-out-t17 Inv-loop μ-loop
-element-copy-out-t17 c = omega arith
+element-copy-out-t20 : tie.Need-element-copy-out-t20 Inv-loop μ-loop
+element-copy-out-t20 c = omega arith
 
 move-one-requires : tie.Need-move-one-requires Inv-loop μ-loop
-move-one-requires c κs = omega (arith, c .before .before .before .before .pre .4 (c .before .before .before .loop .j) (omega arith))
+move-one-requires c κs =
+    let s = c .before .before .before .before .before in
+    (s .pre .0, s .pre .2, s .pre .3, s .pre .4 (c .before .before .before .loop .j) (omega arith), s .pre .5, omega (arith, s .pre .6, c .before .before .before .loop .inv .2))
 
 add-j : tie.Need-add-j Inv-loop μ-loop
 add-j c = omega arith
@@ -37,9 +41,15 @@ loop-less c = omega arith
 loop-again : tie.Need-loop-again Inv-loop μ-loop
 unfolding drawnAt
 loop-again c =
-    let g = c .before .before .before .before .before .args in
-    let f = drawnAt (g .method) (g .n) (now (g .sizes)) (now (g .slots)) (g .x .0) (g .y .0) (g .d-xy) in
-    (omega arith, c .move-one .ensures ∙ ap (f (c .before .before .before .before .loop .j)) (c .before .before .before .before .loop .inv .1) ∙ sym (range-more f 0 (c .before .before .before .before .loop .j) (now (g .d)) (search needs)))
+    let g = c .before .before .before .before .before .before .before .before .args in
+    let f = drawnAt (g .method) (g .form) (g .n) (now (g .sizes)) (now (g .slots)) (g .x .0) (g .y .0) (g .d-xy) in (
+      omega arith,
+      c .before .before .move-one .ensures ∙ ap (f (c .before .before .before .before .before .before .loop .j)) (c .before .before .before .before .before .before .loop .inv .1) ∙ sym (range-more f 0 (c .before .before .before .before .before .before .loop .j) (now (g .d)) (search needs)),
+      ap length (c .before .before .move-one .ensures) ∙ length-drawn (g .method) (g .form) (g .n) (now (g .sizes)) (g .x .0) (g .y .0) (g .d-xy) (getD (now (g .slots)) (c .before .before .before .before .before .before .loop .j) 0) (c .before .before .before .before .before .before .loop .d) ∙ c .before .before .before .before .before .before .loop .inv .2,
+    )
+
+same-length : tie.Need-same-length Inv-loop μ-loop
+same-length c = c .before .loop .inv .2
 
 returns : tie.Need-returns Inv-loop μ-loop
 returns c = range-end _ _ _ _ _ _ (c .before .loop .inv .1) (c .before .loop .inv .0) (omega arith)
@@ -51,10 +61,11 @@ move-all-spec =
     Inv-loop
     μ-loop
     loop-holds
-    mul-t14
-    element-copy-out-t17
+    mul-t17
+    element-copy-out-t20
     move-one-requires
     add-j
     loop-less
     loop-again
+    same-length
     returns)

@@ -35,9 +35,12 @@ update-requires c κs = search needs
 put-both-requires : tie.Need-put-both-requires
 put-both-requires c κs = search needs
 
+same-length : tie.Need-same-length
+same-length c = search needs
+
 returns : tie.Need-returns
 unfolding drawn
-returns c = rw (ne-eqb _ _ (c .before .before .before .before .before .before .before .before .before .before .before .if1 .taken), ne-eqb _ _ (c .before .before .before .before .before .before .before .before .before .before .if2 .taken), ← c .before .before .before .before .before .before .before .before .at .ensures, ← c .before .before .before .before .before .before .at2 .ensures, ← c .before .before .update .ensures) (c .put-both .ensures)
+returns c = rw (ne-eqb _ _ (c .before .before .before .before .before .before .before .before .before .before .before .before .before .if1 .taken), ne-eqb _ _ (c .before .before .before .before .before .before .before .before .before .before .before .before .if2 .taken), ← c .before .before .before .before .before .before .before .before .before .before .at .ensures, ← c .before .before .before .before .before .before .before .before .at2 .ensures, ← c .before .before .before .before .update .ensures) (c .before .before .put-both .ensures)
 
 returns-2 : tie.Need-returns-2
 unfolding drawn
@@ -61,6 +64,7 @@ move-one-spec =
     element-copy-out-update-3
     update-requires
     put-both-requires
+    same-length
     returns
     returns-2
     returns-3)

@@ -1,49 +1,74 @@
 -- `linkage::put_both` meets its contract. Assumes nothing.
 use native.Mathlib.Omega.{arith}
-use mathlib.Core.Path.{refl}
-use Rattle.linkage.specs.Merge.{both}
-use Rattle.linkage.proofs.Laws.{cells-below}
+use lib.ListN.{length-set}
+use Rattle.lent.proofs.Laws.{cell-lt, square-in}
+use Rattle.triangle.proofs.Within.{within}
+use Rattle.linkage.proofs.Forms.{square-cell, wrote-square, wrote-triangle}
+use borrow.Author.Needs.{needs}
 use Rattle.linkage.proofs.put_both.Statement.{statement}
 use Rattle.linkage.proofs.put_both.Tie as tie
 
-mul-d : tie.Need-mul-d
-mul-d c = omega (arith, cells-below (c .args .n) (c .args .x) (c .args .i) (c .pre .0) (c .pre .1) (c .pre .2))
+place-requires : tie.Need-place-requires
+place-requires c κs = search needs
 
-add-d : tie.Need-add-d
-add-d c = omega (arith, cells-below (c .args .n) (c .args .x) (c .args .i) (c .pre .0) (c .pre .1) (c .pre .2))
+mul-d : tie.Need-mul-d
+mul-d c = let s = c .before .before in omega (arith, within _ _ _ _ _ _ (s .pre .0) (s .pre .1) (s .pre .2) (s .pre .3) (s .pre .5) (c .place .ensures) .1)
+
+slice-write-d : tie.Need-slice-write-d
+slice-write-d c = let s = c .before .before in within _ _ _ _ _ _ (s .pre .0) (s .pre .1) (s .pre .2) (s .pre .3) (s .pre .5) (c .place .ensures) .0
+
+enum-told : tie.Need-enum-told
+enum-told c = search needs
 
 mul-d-2 : tie.Need-mul-d-2
-mul-d-2 c = omega (arith, cells-below (c .args .n) (c .args .x) (c .args .i) (c .pre .0) (c .pre .1) (c .pre .2))
+mul-d-2 c =
+    let s = c .before .before .before .before in
+    omega (arith, cell-lt (s .args .n) (s .args .n) (s .args .i) (s .args .x) (s .pre .2) (s .pre .1), square-in (s .args .n) (s .pre .0))
 
-element-write-d : tie.Need-element-write-d
-element-write-d c = omega (arith, cells-below (c .args .n) (c .args .x) (c .args .i) (c .pre .0) (c .pre .1) (c .pre .2))
+add-d : tie.Need-add-d
+add-d c =
+    let s = c .before .before .before .before in
+    omega (arith, cell-lt (s .args .n) (s .args .n) (s .args .i) (s .args .x) (s .pre .2) (s .pre .1), square-in (s .args .n) (s .pre .0))
 
 mul-d-3 : tie.Need-mul-d-3
-mul-d-3 c = omega (arith, cells-below (c .args .n) (c .args .x) (c .args .i) (c .pre .0) (c .pre .1) (c .pre .2))
+mul-d-3 c =
+    let s = c .before .before .before .before in
+    omega (arith, cell-lt (s .args .n) (s .args .n) (s .args .i) (s .args .x) (s .pre .2) (s .pre .1), square-in (s .args .n) (s .pre .0))
 
-add-d-2 : tie.Need-add-d-2
-add-d-2 c = omega (arith, cells-below (c .args .n) (c .args .x) (c .args .i) (c .pre .0) (c .pre .1) (c .pre .2))
+slice-write-d-2 : tie.Need-slice-write-d-2
+slice-write-d-2 c =
+    let s = c .before .before .before .before in
+    simp length-set (square-cell (s .args .form) (s .args .n) (s .args .i) (s .args .x) _ (c .enum-told .given .1) (s .pre .2) (s .pre .1) (s .pre .5))
 
-mul-d-4 : tie.Need-mul-d-4
-mul-d-4 c = omega (arith, cells-below (c .args .n) (c .args .x) (c .args .i) (c .pre .0) (c .pre .1) (c .pre .2))
+enum-told-2 : tie.Need-enum-told-2
+enum-told-2 c = search needs
 
-element-write-d-2 : tie.Need-element-write-d-2
-element-write-d-2 c = omega (arith, cells-below (c .args .n) (c .args .x) (c .args .i) (c .pre .0) (c .pre .1) (c .pre .2))
+same-length : tie.Need-same-length
+same-length c = search needs
 
 returns : tie.Need-returns
-unfolding both
-returns c = refl
+returns c = wrote-square _ _ _ _ _ _ _ (c .enum-told .given .1) (c .before .before .place .ensures)
+
+same-length-2 : tie.Need-same-length-2
+same-length-2 c = search needs
+
+returns-2 : tie.Need-returns-2
+returns-2 c = wrote-triangle _ _ _ _ _ _ _ (c .enum-told2 .given .1) (c .before .before .place .ensures)
 
 pub put-both-spec : {M : Type 1} → statement M
 put-both-spec =
     tie.close
     (tie.spec
+    place-requires
     mul-d
-    add-d
+    slice-write-d
+    enum-told
     mul-d-2
-    element-write-d
+    add-d
     mul-d-3
-    add-d-2
-    mul-d-4
-    element-write-d-2
-    returns)
+    slice-write-d-2
+    enum-told-2
+    same-length
+    returns
+    same-length-2
+    returns-2)

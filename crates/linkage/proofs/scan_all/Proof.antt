@@ -3,16 +3,17 @@ use borrow.Author.Needs.{needs}
 use native.Mathlib.Omega.{arith}
 use Prim.Native.Nat.{_-_, _≤_}
 use denote.Ref.{now}
+use Rattle.triangle.specs.Inner.{readOf}
+use Rattle.triangle.proofs.Places.{less-off}
 use Rattle.linkage.proofs.Packed.{Reached, reached-start, reached-next, reached-low, reached-end}
-use lib.ListN.{getD}
 use Rattle.linkage.proofs.scan_all.Statement.{statement}
 use Rattle.linkage.proofs.scan_all.Tie as tie
 
 abbrev Inv-loop : tie.InvT-loop
-Inv-loop n d ids slots m a b best₀ pairs₀ from₀ i₀ best pairs from i = (i ≤ m) × Reached n d ids slots m i best pairs from
+Inv-loop form shifts n d ids slots m a b best₀ pairs₀ from₀ i₀ best pairs from i = (i ≤ m) × Reached (readOf form n d) ids slots m i best pairs from
 
 abbrev μ-loop : tie.MeasureT-loop
-μ-loop n d ids slots m a b best₀ pairs₀ from₀ i₀ best pairs from i = m - i
+μ-loop form shifts n d ids slots m a b best₀ pairs₀ from₀ i₀ best pairs from i = m - i
 
 element-copy-out-a : tie.Need-element-copy-out-a Inv-loop μ-loop
 element-copy-out-a c = omega arith
@@ -21,58 +22,67 @@ element-copy-out-b : tie.Need-element-copy-out-b Inv-loop μ-loop
 element-copy-out-b c = omega arith
 
 at-requires : tie.Need-at-requires Inv-loop μ-loop
-at-requires c κs = omega (arith, c .before .before .pre .3 0 (omega arith), c .before .before .pre .3 1 (omega arith))
+at-requires c κs =
+    let s = c .before .before .before in
+    (s .pre .0, s .pre .3 0 (omega arith), s .pre .3 1 (omega arith), less-off _ _ (s .pre .4 0 1 (omega arith) (omega arith)), s .pre .5, s .pre .6)
 
-mul-t15 : tie.Need-mul-t15 Inv-loop μ-loop
-mul-t15 c = omega (arith, c .before .before .before .pre .3 0 (omega arith))
+mul-t17 : tie.Need-mul-t17 Inv-loop μ-loop
+mul-t17 c = omega (arith, c .before .before .before .before .pre .3 0 (omega arith))
 
-element-copy-out-t23 : tie.Need-element-copy-out-t23 Inv-loop μ-loop
-element-copy-out-t23 c = omega (arith, c .before .before .before .pre .3 0 (omega arith))
+element-copy-out-t25 : tie.Need-element-copy-out-t25 Inv-loop μ-loop
+element-copy-out-t25 c = omega (arith, c .before .before .before .before .pre .3 0 (omega arith))
 
-mul-t25 : tie.Need-mul-t25 Inv-loop μ-loop
-mul-t25 c = omega (arith, c .before .before .before .before .pre .3 1 (omega arith))
+mul-t27 : tie.Need-mul-t27 Inv-loop μ-loop
+mul-t27 c = omega (arith, c .before .before .before .before .before .pre .3 1 (omega arith))
 
-element-copy-out-t28 : tie.Need-element-copy-out-t28 Inv-loop μ-loop
-element-copy-out-t28 c = omega (arith, c .before .before .before .before .pre .3 1 (omega arith))
+element-copy-out-t30 : tie.Need-element-copy-out-t30 Inv-loop μ-loop
+element-copy-out-t30 c = omega (arith, c .before .before .before .before .before .pre .3 1 (omega arith))
 
 paired-requires : tie.Need-paired-requires Inv-loop μ-loop
 paired-requires c κs = search needs
 
 loop-holds : tie.Need-loop-holds Inv-loop μ-loop
 loop-holds c =
-    let g = c .before .before .before .before .before .before .args in
-    (search needs, reached-start (g .n) (now (g .d)) (now (g .ids)) (now (g .slots)) (g .m) (c .paired .result) (rw (← c .before .before .before .at .ensures) (c .paired .ensures)))
+    let g = c .before .before .before .before .before .before .before .args in
+    (search needs, reached-start (readOf (g .form) (g .n) (now (g .d))) (now (g .ids)) (now (g .slots)) (g .m) (c .paired .result) (rw (← c .before .before .before .at .ensures) (c .paired .ensures)))
 
 scan-row-requires : tie.Need-scan-row-requires Inv-loop μ-loop
 scan-row-requires c κs =
-    let g = c .before .before .before .before .before .before .before .before .args in
-    let r = reached-low (g .n) (now (g .d)) (now (g .ids)) (now (g .slots)) (g .m) (c .before .loop .i) (c .before .loop .best) (c .before .loop .pairs) (c .before .loop .from) (c .before .loop .inv .1) (omega arith) (c .before .before .before .before .before .before .before .before .pre .1) (c .before .before .before .before .before .before .before .before .pre .2) in
-    (search needs, search needs, search needs, r .0, c .before .before .before .before .before .before .before .before .pre .3)
+    let s = c .before .before .before .before .before .before .before .before .before in
+    let g = s .args in
+    let t = c .before .loop in
+    let r = reached-low (readOf (g .form) (g .n) (now (g .d))) (now (g .ids)) (now (g .slots)) (g .m) (t .i) (t .best) (t .pairs) (t .from) (t .inv .1) (omega arith) (s .pre .1) (s .pre .2) in
+    (s .pre .0, s .pre .2, r .0, omega arith, r .1, s .pre .3, s .pre .4, s .pre .5, s .pre .6)
 
 add-pairs : tie.Need-add-pairs Inv-loop μ-loop
 add-pairs c =
-    let g = c .before .before .before .before .before .before .before .before .before .before .before .args in
-    let r = reached-low (g .n) (now (g .d)) (now (g .ids)) (now (g .slots)) (g .m) (c .before .before .before .before .loop .i) (c .before .before .before .before .loop .best) (c .before .before .before .before .loop .pairs) (c .before .before .before .before .loop .from) (c .before .before .before .before .loop .inv .1) (omega arith) (c .before .before .before .before .before .before .before .before .before .before .before .pre .1) (c .before .before .before .before .before .before .before .before .before .before .before .pre .2) in
-    omega (arith, r, c .before .before .scan-row .ensures .1, c .before .before .before .before .before .before .before .before .before .before .before .pre .2)
+    let s = c .before .before .before .before .before .before .before .before .before .before .before .before in
+    let g = s .args in
+    let t = c .before .before .before .before .loop in
+    let r = reached-low (readOf (g .form) (g .n) (now (g .d))) (now (g .ids)) (now (g .slots)) (g .m) (t .i) (t .best) (t .pairs) (t .from) (t .inv .1) (omega arith) (s .pre .1) (s .pre .2) in
+    omega (arith, r, c .before .before .scan-row .ensures .1, s .pre .2)
 
 add-from : tie.Need-add-from Inv-loop μ-loop
-add-from c = omega arith
+add-from c = omega (arith, c .before .before .before .before .before .before .before .before .before .before .before .before .pre .2)
 
 add-i : tie.Need-add-i Inv-loop μ-loop
-add-i c = omega arith
+add-i c = omega (arith, c .before .before .before .before .before .before .before .before .before .before .before .before .pre .2)
 
 loop-less : tie.Need-loop-less Inv-loop μ-loop
 loop-less c = omega arith
 
 loop-again : tie.Need-loop-again Inv-loop μ-loop
 loop-again c =
-    let g = c .before .before .before .before .before .before .before .before .before .before .before .args in
-    (omega arith, reached-next (g .n) (now (g .d)) (now (g .ids)) (now (g .slots)) (g .m) (c .before .before .before .before .loop .i) (c .before .before .before .before .loop .best) (c .before .before .before .before .loop .pairs) (c .before .before .before .before .loop .from) _ _ (c .before .before .before .before .loop .inv .1) (omega arith) (c .before .before .before .before .before .before .before .before .before .before .before .pre .1) (c .before .before .scan-row .ensures .0) (c .before .before .scan-row .ensures .1))
+    let s = c .before .before .before .before .before .before .before .before .before .before .before .before in
+    let g = s .args in
+    let t = c .before .before .before .before .loop in
+    (omega arith, reached-next (readOf (g .form) (g .n) (now (g .d))) (now (g .ids)) (now (g .slots)) (g .m) (t .i) (t .best) (t .pairs) (t .from) _ _ (t .inv .1) (omega arith) (s .pre .1) (c .before .before .scan-row .ensures .0) (c .before .before .scan-row .ensures .1))
 
 returns : tie.Need-returns Inv-loop μ-loop
 returns c =
-    let g = c .before .before .before .before .before .before .before .before .args in
-    reached-end (g .n) (now (g .d)) (now (g .ids)) (now (g .slots)) (g .m) (c .before .loop .i) (c .before .loop .best) (c .before .loop .pairs) (c .before .loop .from) (c .before .loop .inv .1) (omega arith) (omega arith)
+    let g = c .before .before .before .before .before .before .before .before .before .args in
+    let t = c .before .loop in
+    reached-end (readOf (g .form) (g .n) (now (g .d))) (now (g .ids)) (now (g .slots)) (g .m) (t .i) (t .best) (t .pairs) (t .from) (t .inv .1) (omega arith) (omega arith)
 
 pub scan-all-spec : {M : Type 1} → statement M
 scan-all-spec =
@@ -83,10 +93,10 @@ scan-all-spec =
     element-copy-out-a
     element-copy-out-b
     at-requires
-    mul-t15
-    element-copy-out-t23
-    mul-t25
-    element-copy-out-t28
+    mul-t17
+    element-copy-out-t25
+    mul-t27
+    element-copy-out-t30
     paired-requires
     loop-holds
     scan-row-requires
