@@ -63,10 +63,14 @@ module _ (q : HierarchyCall) (d : Distance) (l : Linkage) (cov : List Float) (ro
       ∙ ap (λ (o : Outcome). andThen o (first ((isNone (hcaaShares (q .rule) d l cov n), NoData) ∷ []))) (ap (λ (o : Outcome). andThen o (orElse (anyLow cov n) NoData Done)) (sym e) ∙ sym (p .answer))
 
   module _ (rows order : List ℕ) (weights scratch : List Float) where
-    pub answered-refused : (k : Refusal) → said ≡ Refused k → Cleared room rows order weights scratch → HierarchyAnswered q d l cov rows-in n room said rows order weights scratch
-    answered-refused k h z =
+    -- back is the length of the scratch that planting gave back
+    pub answered-refused : (k : Refusal) (back : ℕ) → back ≡ room .scratch → said ≡ Refused k
+        → Cleared (record { rows = room .rows; order = room .order; weights = room .weights; scratch = back }) rows order weights scratch
+        → HierarchyAnswered q d l cov rows-in n room said rows order weights scratch
+    answered-refused k back g h z =
         let o : hierarchyOutcome q d l cov rows-in n room ≡ Refused k = outcome-is ∙ then-refused said _ k h in
-        record { answer = h ∙ sym o; buffers = laid-cleared _ k (q .rule) d l cov n room rows order weights scratch o z }
+        let all : Cleared room rows order weights scratch = record { rows-are = z .rows-are; order-is = z .order-is; weights-are = z .weights-are; scratch-is = z .scratch-is ∙ ap zeros g } in
+        record { answer = h ∙ sym o; buffers = laid-cleared _ k (q .rule) d l cov n room rows order weights scratch o all }
 
   module _ (h : said ≡ Done) where
     pub passed : Judged q n (length cov) room
@@ -109,21 +113,21 @@ module _ (q : HierarchyCall) (d : Distance) (l : Linkage) (cov : List Float) (ro
         ∙ ap (λ (t : List ℕ). first ((isNone (downShares (q .rule .metric) (q .rule .inputs) cov t n (q .rule .clusters)), NoData) ∷ [])) (p .rows-are h)
         ∙ sym (outcome-is ∙ then-done said _ h)
 
-    pub answered-done : (a : Answer) (r : Outcome) (rows order : List ℕ) (weights scratch : List Float)
-        → a ≡ downAnswer (downCall (q .rule .metric) (q .rule .inputs) (q .expected-given) (q .return-columns) cov n n (take (2 * (n - 1)) tree) n (q .rule .clusters)) (room .weights) (room .scratch) → r ≡ toldOf a
-        → weights ≡ downWeights (downCall (q .rule .metric) (q .rule .inputs) (q .expected-given) (q .return-columns) cov n n (take (2 * (n - 1)) tree) n (q .rule .clusters)) (room .weights) (room .scratch)
-        → scratch ≡ zeros (room .scratch) → rows ≡ laid 0 r (room .rows) (take (2 * (n - 1)) tree) → order ≡ laid 0 r (room .order) (take n leaves)
+    pub answered-done : (a : Answer) (r : Outcome) (rows order : List ℕ) (weights scratch : List Float) (back : ℕ) → back ≡ room .scratch
+        → a ≡ downAnswer (downCall (q .rule .metric) (q .rule .inputs) (q .expected-given) (q .return-columns) cov n n (take (2 * (n - 1)) tree) n (q .rule .clusters)) (room .weights) back → r ≡ toldOf a
+        → weights ≡ downWeights (downCall (q .rule .metric) (q .rule .inputs) (q .expected-given) (q .return-columns) cov n n (take (2 * (n - 1)) tree) n (q .rule .clusters)) (room .weights) back
+        → scratch ≡ zeros back → rows ≡ laid 0 r (room .rows) (take (2 * (n - 1)) tree) → order ≡ laid 0 r (room .order) (take n leaves)
         → HierarchyAnswered q d l cov rows-in n room r rows order weights scratch
     unfolding downAnswer downWeights hcaaShares
-    answered-done a r rows order weights scratch f g w s x y =
-        let o : r ≡ hierarchyOutcome q d l cov rows-in n room = g ∙ ap toldOf f ∙ told-as (downOutcome asked (room .weights) (room .scratch)) 1 n ∙ shared in
+    answered-done a r rows order weights scratch back k f g w s x y =
+        let o : r ≡ hierarchyOutcome q d l cov rows-in n room = g ∙ ap toldOf f ∙ told-as (downOutcome asked (room .weights) back) 1 n ∙ rw k shared in
         record {
           answer = o;
           buffers = record {
             rows-are = x ∙ rw (o, p .rows-are h);
             order-is = y ∙ rw (o, p .order-is h);
-            weights-are = w ∙ rw (shared, p .rows-are h);
-            scratch-is = s;
+            weights-are = w ∙ rw (k, shared, p .rows-are h);
+            scratch-is = s ∙ ap zeros k;
           };
         }
 

@@ -84,8 +84,13 @@ module _ (q : HierarchyCall) (len rows w : ℕ) (room : Room) (said : Outcome) (
         feeds = feeding (q .rule .metric) (q .rule .inputs) (q .return-columns) w (h .1 .1 .0) (x .1 .1 .0) (x .1 .1 .1 .0);
       }
 
-  pub sown : Sown said len w
-  sown = record { some = λ d. judged d .some; few = λ d. judged d .few; cells = λ d. judged d .cells }
+  pub sown : Sown said len w (room .scratch)
+  sown = record {
+    some = λ d. judged d .some;
+    few = λ d. judged d .few;
+    cells = λ d. judged d .cells;
+    for-scratch = λ d. let m = square-in w (judged d .few) in let l = judged d .for-scratch in omega (arith, m, l);
+  }
 
 -- ---- a buffer and its front
 
@@ -104,14 +109,17 @@ lays-refused said k room from blank h b = b ∙ laid-refused 0 said k room from 
 
 -- ---- the tree
 
--- in arrays of 256 doubles for at most 16 assets, else of 4,096
-pub ground-few : (said : Outcome) (len n tree leaves : ℕ) → Sown said len n → said ≡ Done → n ≤ 16 → tree ≡ 126 → leaves ≡ 64 → Ground len n 256 256 tree leaves
-ground-few said len n tree leaves s done h a b =
-    record { some = s .some done; few = s .few done; cells = s .cells done; for-corr = mul-le-mul h h; for-far = mul-le-mul h h; rows = a; order = b }
+module _ (said : Outcome) (len n scratch tree leaves : ℕ) (s : Sown said len n scratch) (done : said ≡ Done) where
+  -- in an array of corr doubles, and the scratch
+  ground-in : (corr : ℕ) → n * n ≤ corr → tree ≡ 126 → leaves ≡ 64 → Ground len n corr scratch tree leaves
+  ground-in corr h a b = record { some = s .some done; few = s .few done; cells = s .cells done; for-corr = h; for-scratch = s .for-scratch done; rows = a; order = b }
 
-pub ground : (said : Outcome) (len n tree leaves : ℕ) → Sown said len n → said ≡ Done → tree ≡ 126 → leaves ≡ 64 → Ground len n 4096 4096 tree leaves
-ground said len n tree leaves s done a b =
-    record { some = s .some done; few = s .few done; cells = s .cells done; for-corr = square-in n (s .few done); for-far = square-in n (s .few done); rows = a; order = b }
+  -- 256 for at most 16 assets, else 4,096
+  pub ground-few : n ≤ 16 → tree ≡ 126 → leaves ≡ 64 → Ground len n 256 scratch tree leaves
+  ground-few h = ground-in 256 (mul-le-mul h h)
+
+  pub ground : tree ≡ 126 → leaves ≡ 64 → Ground len n 4096 scratch tree leaves
+  ground = ground-in 4096 (square-in n (s .few done))
 
 module _ (d : Distance) (l : Linkage) (cov : List Float) (n : ℕ) where
   -- nothing is said of what is refused
@@ -125,7 +133,7 @@ module _ (d : Distance) (l : Linkage) (cov : List Float) (n : ℕ) where
   planted-done said r tree leaves done p = rw done p
 
   -- part is the front of a room, which was lent to the correlations
-  module _ (part : ℕ) (a : Answer) (low : Outcome) (corr far tree leaves : ℕ) (s : Ground (length cov) n corr far tree leaves) (exact : part ≡ n * n) (g : a ≡ correlationAnswer cov n n part) (h : low ≡ toldOf a) where
+  module _ (part : ℕ) (a : Answer) (low : Outcome) (corr scratch tree leaves : ℕ) (s : Ground (length cov) n corr scratch tree leaves) (exact : part ≡ n * n) (g : a ≡ correlationAnswer cov n n part) (h : low ≡ toldOf a) where
     told-low : low ≡ correlationOutcome cov n n part
     unfolding correlationAnswer
     told-low = h ∙ ap toldOf g ∙ told-as (correlationOutcome cov n n part) n n

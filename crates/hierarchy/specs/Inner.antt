@@ -13,19 +13,20 @@ use Rattle.linkage.specs.declared.Distance.{Distance}
 use Rattle.linkage.specs.declared.Linkage.{Linkage}
 use Rattle.hierarchy.specs.Hierarchy.{hcaaRows, hcaaOrder}
 
--- where nothing was refused: 1 to 64 assets, and their covariance in a slice of len
-pub record Sown (said : Outcome) (len n : ℕ) : Type 0 where
+-- where nothing was refused: 1 to 64 assets, their covariance in a slice of len, and a scratch with room for a matrix
+pub record Sown (said : Outcome) (len n scratch : ℕ) : Type 0 where
   pub some : said ≡ Done → 0 < n
   pub few : said ≡ Done → n ≤ 64
   pub cells : said ≡ Done → len ≡ n * n
+  pub for-scratch : said ≡ Done → n * n ≤ scratch
 
 -- the same where nothing was, with rooms for two matrices and the whole arrays of the tree and its leaf order
-pub record Ground (len n corr far tree leaves : ℕ) : Type 0 where
+pub record Ground (len n corr scratch tree leaves : ℕ) : Type 0 where
   pub some : 0 < n
   pub few : n ≤ 64
   pub cells : len ≡ n * n
   pub for-corr : n * n ≤ corr
-  pub for-far : n * n ≤ far
+  pub for-scratch : n * n ≤ scratch
   pub rows : tree ≡ 126
   pub order : leaves ≡ 64
 

@@ -15,17 +15,18 @@ ghost use Rattle.hierarchy.specs.Hierarchy.{HierarchyAnswered};
 ghost use Rattle.hierarchy.specs.Inner.{Sown, Ground, Planted};
 
 // The tree of a covariance and its leaf order, at the fronts of two arrays; refuses a variance. Both matrices stand in the fronts of two rooms: the calls clear all that they are lent.
+// The distances wait in the scratch: the sharing, or a refusal, leaves it zero.
 fn plant_in(
     covariance: &[f64],
     n: usize,
     distance: Distance,
     linkage: Linkage,
     corr: &mut [f64],
-    far: &mut [f64],
+    scratch: &mut [f64],
     tree: &mut [usize],
     leaves: &mut [usize],
 ) -> Outcome
-    requires { ⌜ Ground (length (now covariance)) n (length (now corr)) (length (now far)) (length (now tree)) (length (now leaves)) ⌝ }
+    requires { ⌜ Ground (length (now covariance)) n (length (now corr)) (length (now scratch)) (length (now tree)) (length (now leaves)) ⌝ }
     ensures { λ r. ⌜ Planted Done distance linkage (now (covariance .entry)) n r (now (tree .exit)) (now (leaves .exit)) ⌝ }
 {
     let m = n * n;
@@ -42,12 +43,12 @@ fn plant_in(
         n,
         tree,
         leaves,
-        &mut far[..m],
+        &mut scratch[..m],
     );
     low
 }
 
-// The same, unless something is refused before. Few assets have rooms of their own: the zeros of large ones would take longer than they do.
+// The same, unless something is refused before. Few assets have a room of their own: the zeros of a large one would take longer than they do.
 fn plant(
     said: Outcome,
     covariance: &[f64],
@@ -56,10 +57,11 @@ fn plant(
     linkage: Linkage,
     tree: &mut [usize],
     leaves: &mut [usize],
+    scratch: &mut [f64],
 ) -> Outcome
     requires { ⌜ length (now tree) ≡ 126 ⌝ }
     requires { ⌜ length (now leaves) ≡ 64 ⌝ }
-    requires { ⌜ Sown said (length (now covariance)) n ⌝ }
+    requires { ⌜ Sown said (length (now covariance)) n (length (now scratch)) ⌝ }
     ensures { λ r. ⌜ Planted said distance linkage (now (covariance .entry)) n r (now (tree .exit)) (now (leaves .exit)) ⌝ }
 {
     let Outcome::Done = said else {
@@ -67,27 +69,25 @@ fn plant(
     };
     if n <= 16 {
         let mut corr = [0.0; 256];
-        let mut far = [0.0; 256];
         return plant_in(
             covariance,
             n,
             distance,
             linkage,
             &mut corr,
-            &mut far,
+            scratch,
             tree,
             leaves,
         );
     }
     let mut corr = [0.0; 4096];
-    let mut far = [0.0; 4096];
     plant_in(
         covariance,
         n,
         distance,
         linkage,
         &mut corr,
-        &mut far,
+        scratch,
         tree,
         leaves,
     )
@@ -182,6 +182,7 @@ pub fn allocate_covariance(
         linkage,
         &mut tree,
         &mut leaves,
+        scratch,
     );
     let Outcome::Done = said else {
         rooms::clear_all(rows, order, weights, scratch);

@@ -1,5 +1,5 @@
 -- `hierarchy::allocate_covariance` meets its contract. Assumes nothing.
-use mathlib.Core.Path.{refl, sym}
+use mathlib.Core.Path.{refl, sym, _∙_}
 use native.Mathlib.Omega.{arith}
 use lib.Seq.{length-take-le}
 use Rattle.hierarchy.proofs.Laws.{sown}
@@ -18,7 +18,7 @@ slice-aggregate-plant-2 : tie.Need-slice-aggregate-plant-2
 slice-aggregate-plant-2 c = search needs
 
 plant-requires : tie.Need-plant-requires
-plant-requires c κs = (refl, (refl, sown _ _ _ _ _ _ (c .before .before .judge .ensures)))
+plant-requires c κs = (refl, (refl, sown _ _ _ _ _ _ (c .before .before .before .judge .ensures)))
 
 enum-told : tie.Need-enum-told
 enum-told c = search needs
@@ -39,19 +39,19 @@ same-length-3 : tie.Need-same-length-3
 same-length-3 c = c .before .before .before .before .before .before .before .before .clear-all .kept .1 .1 .0
 
 same-length-4 : tie.Need-same-length-4
-same-length-4 c = c .before .before .before .before .before .before .before .before .clear-all .kept .1 .1 .1 .0
+same-length-4 c = c .before .before .before .before .before .before .before .before .clear-all .kept .1 .1 .1 .0 ∙ c .before .before .before .before .before .before .before .before .before .before .before .before .before .before .before .before .before .before .before .plant .kept .1 .1 .1 .1 .1 .1 .1 .0
 
 returns : tie.Need-returns
-returns c = answered-refused _ _ _ _ _ _ _ _ _ _ _ (c .before .before .before .before .before .before .before .before .before .before .before .before .before .before .before .before .before .before .before .before .judge .ensures) (c .before .before .before .before .before .before .before .before .before .before .before .before .before .before .before .before .before .plant .ensures) _ _ _ _ _ (c .before .before .before .before .before .before .before .before .before .before .before .before .before .enum-told2 .given .1) (c .before .before .before .before .before .before .before .before .clear-all .ensures)
+returns c = answered-refused _ _ _ _ _ _ _ _ _ _ _ (c .before .before .before .before .before .before .before .before .before .before .before .before .before .before .before .before .before .before .before .before .before .before .before .judge .ensures) (c .before .before .before .before .before .before .before .before .before .before .before .before .before .before .before .before .before .before .before .plant .ensures) _ _ _ _ _ _ (c .before .before .before .before .before .before .before .before .before .before .before .before .before .before .before .before .before .before .before .plant .kept .1 .1 .1 .1 .1 .1 .1 .0) (c .before .before .before .before .before .before .before .before .before .before .before .before .before .enum-told2 .given .1) (c .before .before .before .before .before .before .before .before .clear-all .ensures)
 
 sub-k : tie.Need-sub-k
-sub-k c = let z = passed _ _ _ _ _ _ _ _ _ _ _ (c .before .before .before .before .before .before .before .judge .ensures) (c .before .before .before .before .plant .ensures) (c .enum-told .given .1) in omega (arith, z .some)
+sub-k c = let z = passed _ _ _ _ _ _ _ _ _ _ _ (c .before .before .before .before .before .before .before .before .before .before .judge .ensures) (c .before .before .before .before .before .before .plant .ensures) (c .enum-told .given .1) in omega (arith, z .some)
 
 mul-k : tie.Need-mul-k
-mul-k c = let z = passed _ _ _ _ _ _ _ _ _ _ _ (c .before .before .before .before .before .before .before .judge .ensures) (c .before .before .before .before .plant .ensures) (c .enum-told .given .1) in omega (arith, z .few)
+mul-k c = let z = passed _ _ _ _ _ _ _ _ _ _ _ (c .before .before .before .before .before .before .before .before .before .before .judge .ensures) (c .before .before .before .before .before .before .plant .ensures) (c .enum-told .given .1) in omega (arith, z .few)
 
 array-share-prefix-tree : tie.Need-array-share-prefix-tree
-array-share-prefix-tree c = rows-in-tree _ _ _ _ _ _ _ _ _ _ _ (c .before .before .before .before .before .before .before .judge .ensures) (c .before .before .before .before .plant .ensures) (c .enum-told .given .1) (c .before .before .before .before .plant .kept .1 .1 .1 .1 .1 .0)
+array-share-prefix-tree c = rows-in-tree _ _ _ _ _ _ _ _ _ _ _ (c .before .before .before .before .before .before .before .before .before .before .judge .ensures) (c .before .before .before .before .before .before .plant .ensures) (c .enum-told .given .1) (c .before .before .before .before .before .before .plant .kept .1 .1 .1 .1 .1 .0)
 
 slice-aggregate-made : tie.Need-slice-aggregate-made
 slice-aggregate-made c = sym (length-take-le _ _ (array-share-prefix-tree (c .before)))
@@ -63,16 +63,16 @@ told-requires : tie.Need-told-requires
 told-requires c κs = search needs
 
 lay-requires : tie.Need-lay-requires
-lay-requires c κs = rows-fit _ _ _ _ _ _ _ _ _ _ _ (c .before .before .before .before .before .before .before .before .before .before .before .before .before .before .before .before .before .judge .ensures) (c .before .before .before .before .before .before .before .before .before .before .before .before .before .before .plant .ensures) (c .before .before .before .before .before .before .before .before .before .before .enum-told .given .1) (c .before .before .before .before .before .before .before .before .before .before .before .before .before .before .plant .kept .1 .1 .1 .1 .1 .0)
+lay-requires c κs = rows-fit _ _ _ _ _ _ _ _ _ _ _ (c .before .before .before .before .before .before .before .before .before .before .before .before .before .before .before .before .before .before .before .before .judge .ensures) (c .before .before .before .before .before .before .before .before .before .before .before .before .before .before .before .before .plant .ensures) (c .before .before .before .before .before .before .before .before .before .before .enum-told .given .1) (c .before .before .before .before .before .before .before .before .before .before .before .before .before .before .before .before .plant .kept .1 .1 .1 .1 .1 .0)
 
 array-share-prefix-leaves : tie.Need-array-share-prefix-leaves
-array-share-prefix-leaves c = order-in-leaves _ _ _ _ _ _ _ _ _ _ _ (c .before .before .before .before .before .before .before .before .before .before .before .before .before .before .before .before .before .before .before .before .judge .ensures) (c .before .before .before .before .before .before .before .before .before .before .before .before .before .before .before .before .before .plant .ensures) (c .before .before .before .before .before .before .before .before .before .before .before .before .before .enum-told .given .1) (c .before .before .before .before .before .before .before .before .before .before .before .before .before .before .before .before .before .plant .kept .1 .1 .1 .1 .1 .1 .0)
+array-share-prefix-leaves c = order-in-leaves _ _ _ _ _ _ _ _ _ _ _ (c .before .before .before .before .before .before .before .before .before .before .before .before .before .before .before .before .before .before .before .before .before .before .before .judge .ensures) (c .before .before .before .before .before .before .before .before .before .before .before .before .before .before .before .before .before .before .before .plant .ensures) (c .before .before .before .before .before .before .before .before .before .before .before .before .before .enum-told .given .1) (c .before .before .before .before .before .before .before .before .before .before .before .before .before .before .before .before .before .before .before .plant .kept .1 .1 .1 .1 .1 .1 .0)
 
 slice-aggregate-lay : tie.Need-slice-aggregate-lay
 slice-aggregate-lay c = sym (length-take-le _ _ (array-share-prefix-leaves (c .before)))
 
 lay-requires-2 : tie.Need-lay-requires-2
-lay-requires-2 c κs = order-fits _ _ _ _ _ _ _ _ _ _ _ (c .before .before .before .before .before .before .before .before .before .before .before .before .before .before .before .before .before .before .before .before .before .before .judge .ensures) (c .before .before .before .before .before .before .before .before .before .before .before .before .before .before .before .before .before .before .before .plant .ensures) (c .before .before .before .before .before .before .before .before .before .before .before .before .before .before .before .enum-told .given .1) (c .before .before .before .before .before .before .before .before .before .before .before .before .before .before .before .before .before .before .before .plant .kept .1 .1 .1 .1 .1 .1 .0)
+lay-requires-2 c κs = order-fits _ _ _ _ _ _ _ _ _ _ _ (c .before .before .before .before .before .before .before .before .before .before .before .before .before .before .before .before .before .before .before .before .before .before .before .before .before .judge .ensures) (c .before .before .before .before .before .before .before .before .before .before .before .before .before .before .before .before .before .before .before .before .before .plant .ensures) (c .before .before .before .before .before .before .before .before .before .before .before .before .before .before .before .enum-told .given .1) (c .before .before .before .before .before .before .before .before .before .before .before .before .before .before .before .before .before .before .before .before .before .plant .kept .1 .1 .1 .1 .1 .1 .0)
 
 same-length-5 : tie.Need-same-length-5
 same-length-5 c = c .before .before .before .before .before .before .before .lay .kept .1 .1 .0
@@ -84,10 +84,10 @@ same-length-7 : tie.Need-same-length-7
 same-length-7 c = c .before .before .before .before .before .before .before .before .before .before .before .before .before .before .allocate-down-tree .kept .1 .1 .1 .1 .1 .1 .1 .1 .1 .1 .1 .1 .1 .0
 
 same-length-8 : tie.Need-same-length-8
-same-length-8 c = c .before .before .before .before .before .before .before .before .before .before .before .before .before .before .allocate-down-tree .kept .1 .1 .1 .1 .1 .1 .1 .1 .1 .1 .1 .1 .1 .1 .0
+same-length-8 c = c .before .before .before .before .before .before .before .before .before .before .before .before .before .before .allocate-down-tree .kept .1 .1 .1 .1 .1 .1 .1 .1 .1 .1 .1 .1 .1 .1 .0 ∙ c .before .before .before .before .before .before .before .before .before .before .before .before .before .before .before .before .before .before .before .before .before .before .before .before .plant .kept .1 .1 .1 .1 .1 .1 .1 .0
 
 returns-2 : tie.Need-returns-2
-returns-2 c = answered-done _ _ _ _ _ _ _ _ _ _ _ (c .before .before .before .before .before .before .before .before .before .before .before .before .before .before .before .before .before .before .before .before .before .before .before .before .before .judge .ensures) (c .before .before .before .before .before .before .before .before .before .before .before .before .before .before .before .before .before .before .before .before .before .before .plant .ensures) (c .before .before .before .before .before .before .before .before .before .before .before .before .before .before .before .before .before .before .enum-told .given .1) _ _ _ _ _ _ (c .before .before .before .before .before .before .before .before .before .before .before .before .before .before .allocate-down-tree .ensures .0) (c .before .before .before .before .before .before .before .before .before .told .ensures) (c .before .before .before .before .before .before .before .before .before .before .before .before .before .before .allocate-down-tree .ensures .1 .0) (c .before .before .before .before .before .before .before .before .before .before .before .before .before .before .allocate-down-tree .ensures .1 .1) (c .before .before .before .before .before .before .before .lay .ensures) (c .before .before .lay2 .ensures)
+returns-2 c = answered-done _ _ _ _ _ _ _ _ _ _ _ (c .before .before .before .before .before .before .before .before .before .before .before .before .before .before .before .before .before .before .before .before .before .before .before .before .before .before .before .before .judge .ensures) (c .before .before .before .before .before .before .before .before .before .before .before .before .before .before .before .before .before .before .before .before .before .before .before .before .plant .ensures) (c .before .before .before .before .before .before .before .before .before .before .before .before .before .before .before .before .before .before .enum-told .given .1) _ _ _ _ _ _ _ (c .before .before .before .before .before .before .before .before .before .before .before .before .before .before .before .before .before .before .before .before .before .before .before .before .plant .kept .1 .1 .1 .1 .1 .1 .1 .0) (c .before .before .before .before .before .before .before .before .before .before .before .before .before .before .allocate-down-tree .ensures .0) (c .before .before .before .before .before .before .before .before .before .told .ensures) (c .before .before .before .before .before .before .before .before .before .before .before .before .before .before .allocate-down-tree .ensures .1 .0) (c .before .before .before .before .before .before .before .before .before .before .before .before .before .before .allocate-down-tree .ensures .1 .1) (c .before .before .before .before .before .before .before .lay .ensures) (c .before .before .lay2 .ensures)
 
 pub allocate-covariance-spec : {M : Type 1} → statement M
 allocate-covariance-spec =

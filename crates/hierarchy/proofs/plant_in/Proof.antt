@@ -47,10 +47,10 @@ slice-aggregate-arrange : tie.Need-slice-aggregate-arrange
 slice-aggregate-arrange c = sym (length-take-le _ _ (slice-reshare-prefix-arrange (c .before)))
 
 slice-relend-prefix-arrange : tie.Need-slice-relend-prefix-arrange
-slice-relend-prefix-arrange c = c .before .before .before .before .before .before .before .before .before .before .before .before .before .before .before .pre .for-far
+slice-relend-prefix-arrange c = c .before .before .before .before .before .before .before .before .before .before .before .before .before .before .before .pre .for-scratch
 
 slice-aggregate-arrange-2 : tie.Need-slice-aggregate-arrange-2
-slice-aggregate-arrange-2 c = sym (length-take-le _ _ (c .before .before .before .before .before .before .before .before .before .before .before .before .before .before .before .before .pre .for-far))
+slice-aggregate-arrange-2 c = sym (length-take-le _ _ (c .before .before .before .before .before .before .before .before .before .before .before .before .before .before .before .before .pre .for-scratch))
 
 arrange-requires : tie.Need-arrange-requires
 arrange-requires c κs = search needs
@@ -59,7 +59,7 @@ same-length-2 : tie.Need-same-length-2
 same-length-2 c = length-front (c .before .before .before .before .before .before .before .before .before .before .before .before .before .before .before .before .before .before .before .before .before .before .before .args .corr .now) (c .before .before .before .before .before .before .before .before .before .before .before .before .before .before .before .before .cov2corr .last .1 .1 .1 .0) (c .before .before .before .before .before .before .before .before .before .before .before .before .before .before .before .before .before .before .before .before .before .before .before .args .n * c .before .before .before .before .before .before .before .before .before .before .before .before .before .before .before .before .before .before .before .before .before .before .before .args .n) (c .before .before .before .before .before .before .before .before .before .before .before .before .before .before .before .before .cov2corr .kept .1 .1 .1 .0)
 
 same-length-3 : tie.Need-same-length-3
-same-length-3 c = length-front (c .before .before .before .before .before .before .before .before .before .before .before .before .before .before .before .before .before .before .before .before .before .before .before .args .far .now) (c .before .before .before .before .before .before .arrange .last .1 .1 .1 .1 .1 .1 .1 .1 .0) (c .before .before .before .before .before .before .before .before .before .before .before .before .before .before .before .before .before .before .before .before .before .before .before .args .n * c .before .before .before .before .before .before .before .before .before .before .before .before .before .before .before .before .before .before .before .before .before .before .before .args .n) (c .before .before .before .before .before .before .arrange .kept .1 .1 .1 .1 .1 .1 .1 .1 .0)
+same-length-3 c = length-front (c .before .before .before .before .before .before .before .before .before .before .before .before .before .before .before .before .before .before .before .before .before .before .before .args .scratch .now) (c .before .before .before .before .before .before .arrange .last .1 .1 .1 .1 .1 .1 .1 .1 .0) (c .before .before .before .before .before .before .before .before .before .before .before .before .before .before .before .before .before .before .before .before .before .before .before .args .n * c .before .before .before .before .before .before .before .before .before .before .before .before .before .before .before .before .before .before .before .before .before .before .before .args .n) (c .before .before .before .before .before .before .arrange .kept .1 .1 .1 .1 .1 .1 .1 .1 .0)
 
 same-length-4 : tie.Need-same-length-4
 same-length-4 c = c .before .before .before .before .before .before .arrange .kept .1 .1 .1 .1 .1 .1 .0
@@ -72,7 +72,7 @@ returns-2 c =
     let s = c .before .before .before .before .before .before .before .before .before .before .before .before .before .before .before .before .before .before .before .before .before .before .before in
     let a = s .args in
     let p = s .pre in
-    planted (a .distance) (a .linkage) (a .covariance .now) (a .n) _ _ _ _ _ _ _ p (length-take-le _ _ (p .for-corr)) (c .before .before .before .before .before .before .before .before .before .before .before .before .before .before .before .before .cov2corr .ensures .0) (c .before .before .before .before .before .before .before .before .before .before .before .before .before .told .ensures) _ _ (c .before .before .before .before .before .before .before .before .before .before .before .before .before .before .before .before .cov2corr .kept .1 .1 .1 .0) (c .before .before .before .before .before .before .before .before .before .before .before .before .before .before .before .before .cov2corr .ensures .1) (c .before .before .before .before .before .before .before .before .before .before .before .enum-told .given .1) _ _ _ _ _ (length-take-le _ _ (p .for-far)) (c .before .before .before .before .before .before .arrange .ensures)
+    planted (a .distance) (a .linkage) (a .covariance .now) (a .n) _ _ _ _ _ _ _ p (length-take-le _ _ (p .for-corr)) (c .before .before .before .before .before .before .before .before .before .before .before .before .before .before .before .before .cov2corr .ensures .0) (c .before .before .before .before .before .before .before .before .before .before .before .before .before .told .ensures) _ _ (c .before .before .before .before .before .before .before .before .before .before .before .before .before .before .before .before .cov2corr .kept .1 .1 .1 .0) (c .before .before .before .before .before .before .before .before .before .before .before .before .before .before .before .before .cov2corr .ensures .1) (c .before .before .before .before .before .before .before .before .before .before .before .enum-told .given .1) _ _ _ _ _ (length-take-le _ _ (p .for-scratch)) (c .before .before .before .before .before .before .arrange .ensures)
 
 pub plant-in-spec : {M : Type 1} → statement M
 plant-in-spec =
