@@ -72,6 +72,8 @@ use Rattle.tree.proofs.seriate_matrix as tree·seriate-matrix
 use Rattle.pairing.proofs.paired as pairing·paired
 use Rattle.pairing.proofs.offered as pairing·offered
 use Rattle.slots.proofs.close_gap as slots·close-gap
+use Rattle.triangle.proofs.shifts as triangle·shifts
+use Rattle.triangle.proofs.above as triangle·above
 use Rattle.linkage.proofs.distance_named as linkage·distance-named
 use Rattle.linkage.proofs.linkage_named as linkage·linkage-named
 use Rattle.linkage.proofs.Linkage.update as linkage·update
@@ -400,6 +402,14 @@ pairing-offered κs a r r′ e e′ p q = (sole p q, refl)
 
 pub slots-close-gap : Sole slots·close-gap.ended slots·close-gap.Reads.Post
 slots-close-gap κs a r r′ e e′ p q = (refl, λ i. (sole p q i, (tt, (tt, tt))))
+
+-- ---- triangle: where a distance stands
+
+pub triangle-shifts : Sole triangle·shifts.ended triangle·shifts.Reads.Post
+triangle-shifts κs a r r′ e e′ p q = (refl, λ i. (tt, (tt, (sole p q i, tt))))
+
+pub triangle-above : Sole triangle·above.ended triangle·above.Reads.Post
+triangle-above κs a r r′ e e′ p q = (sole (p .0) (q .0), λ i. (tt, (tt, (sole (p .1) (q .1) i, tt))))
 
 -- ---- linkage: names, and merge rows
 
