@@ -2,10 +2,12 @@
 use crate::buffers::{hex, Input, Verdict};
 use crate::case::{plainer, weight};
 use crate::matrices;
+use crate::mirror::{self, Mirror, Mirrors};
 use crate::names;
 use crate::random::Random;
 use crate::rules::Handed;
 use nalgebra::DMatrix;
+use openquant::api::{self, Distance, Linkage, Measure};
 
 /// A matrix that may be absent; a flag is any byte.
 #[derive(Clone)]
@@ -153,6 +155,26 @@ impl Inputs {
             matrices[2] = Matrix::of(rng, n, n, cells);
         }
         Self { assets: n, matrices, sampling, distance }
+    }
+
+    /// The covariance beside its mirror: drawn last, so that nothing else of a case changes.
+    pub fn bend(&mut self, rng: &mut Random) {
+        let m = &mut self.matrices[2];
+        if m.rows == m.columns && m.whole() {
+            mirror::bend(rng, m.rows, &mut m.cells);
+        }
+    }
+
+    /// Of an accepted account, where a covariance was given.
+    pub fn mirrors(&self, measure: Measure, linkage: Linkage) -> Option<Mirrors> {
+        let covariance = self.matrices[2].made()?;
+        let pairwise = api::corr_to_distances(measure, &api::cov2corr(&covariance).ok()?);
+        let distances = match api::distance_named(&text(&self.distance)).ok()? {
+            Distance::Correlation => pairwise,
+            Distance::DistanceOfDistances => api::distance_of_distances(&pairwise),
+        };
+        let of = |m: &DMatrix<f64>| Mirror::of(self.assets, &matrices::cells(m));
+        Some(Mirrors { linkage, given: of(&covariance)?, distances: of(&distances)? })
     }
 
     pub fn handed(&self) -> [Handed; 3] {

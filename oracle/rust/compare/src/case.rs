@@ -1,5 +1,6 @@
 //! A case: what both sides are handed, how it is judged, and how a disagreeing one is made smaller.
 use crate::buffers::{Input, Lent, Verdict};
+use crate::mirror::Mirrors;
 use crate::random::Random;
 use openquant::nearest::Known;
 
@@ -44,6 +45,11 @@ pub trait Case: Sized {
 
     /// Calls both sides, ours in buffers of junk.
     fn judge(&self, desk: &mut Desk, junk: &mut Random) -> Judged;
+
+    /// Of an accepted case: how a given covariance, or given distances, stand to their mirror.
+    fn mirrors(&self) -> Option<Mirrors> {
+        None
+    }
 
     /// How much there is to read in `show`.
     fn size(&self) -> usize;

@@ -3,11 +3,12 @@ use crate::account::{bytes, text, yes, Inputs, Matrix};
 use crate::buffers::{hex, number, Verdict};
 use crate::case::{plainer, weight, weight_of_rooms, Case, Desk, Judged, Listed};
 use crate::damage;
+use crate::mirror::Mirrors;
 use crate::names;
 use crate::ours::rovignesc_hcaa;
 use crate::random::Random;
 use crate::rules::{self, need};
-use openquant::api::{self, Beside, Distance, Due, HcaaAccount, HcaaAllocation, Linkage, Refused};
+use openquant::api::{self, Beside, Distance, Due, HcaaAccount, HcaaAllocation, Linkage, Measure, Refused};
 
 #[derive(Clone)]
 pub struct Hcaa {
@@ -223,6 +224,7 @@ impl Case for Hcaa {
         if rng.below(60) == 0 {
             made.spoil_names(rng);
         }
+        made.inputs.bend(rng);
         made
     }
 
@@ -237,6 +239,10 @@ impl Case for Hcaa {
             Beside::Unknown => (Listed::No, verdict.and(Err("the Rust differs from document 02, and not as listed".into()))),
         };
         Judged { number: theirs.answer.err().map_or(0, |r| r.number), listed, verdict }
+    }
+
+    fn mirrors(&self) -> Option<Mirrors> {
+        self.inputs.mirrors(Measure::Hcaa, api::linkage_named(&text(&self.linkage)).ok()?)
     }
 
     fn size(&self) -> usize {

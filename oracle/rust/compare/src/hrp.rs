@@ -4,10 +4,11 @@ use crate::buffers::{number, Verdict};
 use crate::case::{weight_of_rooms, Case, Desk, Judged, Listed};
 use crate::damage;
 use crate::matrices::cells;
+use crate::mirror::Mirrors;
 use crate::ours::rovignesc_hrp;
 use crate::random::Random;
 use crate::rules::{self, need};
-use openquant::api::{self, Account, Allocation};
+use openquant::api::{self, Account, Allocation, Linkage, Measure};
 
 #[derive(Clone)]
 pub struct Hrp {
@@ -107,6 +108,7 @@ impl Case for Hrp {
         let rooms = damage::rooms(rng, need::hrp(inputs.assets));
         damage::shapes(rng, &mut inputs);
         let shrink = if rng.below(2) == 0 { 0 } else { yes(rng) };
+        inputs.bend(rng);
         Self { inputs, shrink, rooms }
     }
 
@@ -116,6 +118,10 @@ impl Case for Hrp {
         let ours = self.ours(desk);
         let verdict = self.compare(desk, ours, &theirs);
         Judged { number: theirs.err().unwrap_or(0), listed: Listed::No, verdict }
+    }
+
+    fn mirrors(&self) -> Option<Mirrors> {
+        self.inputs.mirrors(Measure::Hrp, Linkage::Single)
     }
 
     fn size(&self) -> usize {

@@ -7,6 +7,7 @@ pub mod hcaa;
 pub mod hrp;
 pub mod listing;
 pub mod matrices;
+pub mod mirror;
 pub mod names;
 pub mod ours;
 pub mod sheet;

@@ -4,9 +4,11 @@ use compare::case::{shrunk, Case, Desk, Listed};
 use compare::hcaa::Hcaa;
 use compare::hrp::Hrp;
 use compare::listing::Listing;
+use compare::mirror::{Mirrors, HEADINGS};
 use compare::random::Random;
 use compare::steps::{Covariance, Leaves, Merge, Roots};
 use std::collections::BTreeMap;
+use std::fmt::Display;
 use std::process::ExitCode;
 use std::sync::atomic::{AtomicU64, Ordering};
 
@@ -42,6 +44,8 @@ struct Smallest {
 struct Tally {
     /// How many cases of each call ended with each number.
     ends: BTreeMap<(&'static str, u8), u64>,
+    /// How many accepted cases of each call and linkage are of each heading.
+    mirrors: BTreeMap<(&'static str, usize), [u64; HEADINGS.len()]>,
     /// Cases in which the Rust differs as listed: by a signalling NaN, and by the tail-risk rules in all and by each of them.
     signalling: u64,
     tail_risk: u64,
@@ -59,6 +63,9 @@ impl Tally {
         let junk = rng.bits();
         let judged = case.judge(desk, &mut Random::new(junk));
         *self.ends.entry((C::NAME, judged.number)).or_default() += 1;
+        if judged.number == 0 {
+            case.mirrors().iter().for_each(|mirrors| self.note(C::NAME, mirrors));
+        }
         match judged.listed {
             Listed::No => {}
             Listed::Signalling => self.signalling += 1,
@@ -75,6 +82,12 @@ impl Tally {
         }
     }
 
+    fn note(&mut self, call: &'static str, mirrors: &Mirrors) {
+        let row = self.mirrors.entry((call, mirrors.linkage as usize)).or_default();
+        row[mirrors.given as usize] += 1;
+        row[HEADINGS.len() - 1] += mirrors.distances.unequal() as u64;
+    }
+
     /// The smallest that was found, made smaller still.
     fn keep<C: Case>(&mut self, case: C, desk: &mut Desk, seed: u64, at: u64, junk: u64) {
         self.shrinks += 1;
@@ -89,6 +102,20 @@ impl Tally {
         }
     }
 
+    fn tell_mirrors(&self) {
+        println!(
+            "accepted, by where the given covariance or distances (2 assets or more) differ from their mirror; last, how often the merge step's \
+             distances do"
+        );
+        table_line("", &HEADINGS);
+        for call in [Hrp::NAME, Hcaa::NAME, Merge::NAME] {
+            for (&(_, linkage), row) in self.mirrors.iter().filter(|((name, _), _)| *name == call) {
+                let linkage = ["single", "complete", "average", "ward"][linkage];
+                table_line(&format!("{call} by {linkage}"), row);
+            }
+        }
+    }
+
     fn tell(&self, count: u64) {
         for name in [Hrp::NAME, Hcaa::NAME, Covariance::NAME, Merge::NAME, Leaves::NAME, Roots::NAME, Listing::NAME] {
             let ends: Vec<(u8, u64)> = self.ends.iter().filter(|((call, _), _)| *call == name).map(|(&(_, end), &n)| (end, n)).collect();
@@ -96,6 +123,7 @@ impl Tally {
             let done: u64 = ends.iter().filter(|(end, _)| *end == 0).map(|(_, n)| n).sum();
             println!("{name}: {done} accepted{}{refused}", if refused.is_empty() { "" } else { ", refused" });
         }
+        self.tell_mirrors();
         if let Some(smallest) = &self.smallest {
             print!("the smallest that disagrees\n{}", smallest.text);
         }
@@ -106,6 +134,11 @@ impl Tally {
         );
         println!("{count} cases, {} disagree", self.disagree);
     }
+}
+
+fn table_line<T: Display>(name: &str, cells: &[T]) {
+    let cells: String = cells.iter().map(|cell| format!("{cell:>12}")).collect();
+    println!("{name:28}{cells}");
 }
 
 /// Cases that do not depend on those before them.

@@ -5,6 +5,7 @@ use crate::case::{plainer, weight, weight_of_rooms, Case, Desk, Judged, Listed};
 use crate::damage;
 use crate::kinds::{any_tree, quiet, DISTANCES};
 use crate::matrices;
+use crate::mirror::{self, Mirror, Mirrors};
 use crate::names;
 use crate::ours::{rovignesc_covariance, rovignesc_linkage_children, rovignesc_quasi_diagonalization, rovignesc_sqrt};
 use crate::random::{Random, ODD};
@@ -199,7 +200,11 @@ impl Case for Merge {
         let [room, count] = damage::rooms(rng, [need::children(n), 1]);
         let linkage = names::linkage(rng);
         let whole = Lone { rows: n, columns: n, cells, room };
-        let distances = if rng.below(10) == 0 { whole.damaged(rng) } else { whole };
+        let mut distances = if rng.below(10) == 0 { whole.damaged(rng) } else { whole };
+        // Drawn last, so that nothing else of a case changes.
+        if distances.rows == distances.columns && distances.whole() {
+            mirror::bend(rng, distances.rows, &mut distances.cells);
+        }
         Self { distances, linkage, count }
     }
 
@@ -235,6 +240,12 @@ impl Case for Merge {
             .and_then(|()| desk.doubles[0].unchanged("distances", cells))
             .and_then(|()| desk.bytes[0].unchanged("linkage", &self.linkage));
         Judged { number: due, listed: if raw == theirs { Listed::No } else { Listed::Signalling }, verdict }
+    }
+
+    fn mirrors(&self) -> Option<Mirrors> {
+        let given = Mirror::of(self.distances.columns, &self.distances.cells)?;
+        let linkage = api::linkage_named(&text(&self.linkage)).ok()?;
+        Some(Mirrors { linkage, given, distances: given })
     }
 
     fn size(&self) -> usize {
