@@ -69,6 +69,7 @@ use Rattle.tree.proofs.is_tree as tree·is-tree
 use Rattle.tree.proofs.is_order as tree·is-order
 use Rattle.tree.proofs.quasi_diagonalization as tree·quasi-diagonalization
 use Rattle.tree.proofs.seriate_matrix as tree·seriate-matrix
+use Rattle.pairing.proofs.is_far as pairing·is-far
 use Rattle.pairing.proofs.paired as pairing·paired
 use Rattle.pairing.proofs.offered as pairing·offered
 use Rattle.slots.proofs.close_gap as slots·close-gap
@@ -391,6 +392,9 @@ pub tree-seriate-matrix : Sole tree·seriate-matrix.ended tree·seriate-matrix.R
 tree-seriate-matrix κs a r r′ e e′ p q = (sole (p .0) (q .0), λ i. (tt, (tt, (tt, (tt, (sole (p .1) (q .1) i, tt))))))
 
 -- ---- pairing: the best pair of a scan
+
+pub pairing-is-far : Sole pairing·is-far.ended pairing·is-far.Reads.Post
+pairing-is-far κs a r r′ e e′ p q = (sole (p .0) (q .0), refl)
 
 pub pairing-paired : Sole pairing·paired.ended pairing·paired.Reads.Post
 pairing-paired κs a r r′ e e′ p q = (sole p q, refl)

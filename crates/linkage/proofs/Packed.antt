@@ -4,16 +4,19 @@ use mathlib.Core.Path.{_≡_, refl, sym, ap, _∙_, subst}
 use mathlib.Core.Logic.{⊎-elim}
 use mathlib.Core.Bool.{Bool, true, false, cond}
 use mathlib.Core.List.{List, [], _∷_, _++_}
+use native.Mathlib.Nat.{eq-or-lt-of-le, le-of-suc-le-suc, add-zero, add-suc}
 use native.Mathlib.Numerals.{add-one}
 use native.Mathlib.Omega.{arith}
 use lib.ListN.{length, getD, take, replicate, getD-replicate}
 use lib.Seq.{take-suc}
-use lib.Ieee.{Float}
+use lib.Ieee.{Float, nan}
 use Rattle.lent.specs.Grid.{cell}
 use Rattle.lent.specs.Range.{range}
 use Rattle.lent.proofs.Laws.{either}
 use Rattle.lent.proofs.Range.{range-none, range-suc, range-first, range-same, range-keeps}
 use Rattle.pairing.specs.declared.Best.{Best}
+use Rattle.pairing.specs.Inner.{Far}
+use Rattle.pairing.proofs.Offers.{offer-far}
 use Rattle.slots.specs.Inner.{packed, Below}
 use Rattle.slots.proofs.Packed.{placed, ones, packed-live, by-places, by-later}
 use Rattle.triangle.specs.declared.Form.the-variants.{Square}
@@ -23,7 +26,7 @@ use Rattle.triangle.proofs.Places.{met-more, met-none, met-least}
 use Rattle.linkage.specs.declared.Linkage.{Linkage}
 use Rattle.linkage.specs.Merge.{pair, nothing, better, offer, look, scanRow, scanFrom, scanAll, both, movable, moved, movedAll}
 use Rattle.linkage.specs.Pairs.{countOne, countRow, countFrom, countAll}
-use Rattle.linkage.specs.Inner.{numbered, meet, meetRow, meetAll, drawn, drawnAt}
+use Rattle.linkage.specs.Inner.{numbered, meet, meetRow, meetAll, drawn, drawnAt, FarTo}
 use Rattle.linkage.proofs.Scan.{In, offer-in}
 use Rattle.linkage.proofs.Front.{numbered-at}
 
@@ -80,6 +83,47 @@ module _ (n m : ℕ) (d : ℕ → ℕ → Float) (ids slots : List ℕ) where
   all-in b h =
       range-keeps (In n) (meetRow d ids slots m) 0 m nothing (h, h)
       (λ i t l r p. range-keeps (In n) (meet d ids slots (getD slots i 0)) (i + 1) m t p (λ j u l′ r′ q. offer-in n (getD slots i 0) (getD slots j 0) (d (getD slots i 0) (getD slots j 0)) (getD ids (getD slots i 0) 0) (getD ids (getD slots j 0) 0) u (b i r) (b j r′) q))
+
+-- ---- pairs too far off change nothing, once there is a best
+
+abbrev pub Found : Best → Type 0
+Found best = best .found ≡ true
+
+offer-found : (a b : ℕ) (x : Float) (p q : ℕ) (best : Best) → Found best → Found (offer a b x p q best)
+unfolding offer
+offer-found a b x p q best f = ⊎-elim (λ e. rw e refl) (λ e. rw e f) (either (better best x (min p q) (max p q)))
+
+pub far-none : (row : List Float) (slots : List ℕ) (limit : Float) (lo : ℕ) → FarTo row slots limit lo lo
+far-none row slots limit lo j a b = absurd (omega arith)
+
+pub far-more : (row : List Float) (slots : List ℕ) (limit : Float) (lo k : ℕ) → FarTo row slots limit lo k → Far (getD row (getD slots k 0 - 1) nan) limit
+    → FarTo row slots limit lo (k + 1)
+far-more row slots limit lo k h e j a b =
+    ⊎-elim (λ q. subst (λ (z : ℕ). Far (getD row (getD slots z 0 - 1) nan) limit) (sym q) e) (λ l. h j a l) (eq-or-lt-of-le (le-of-suc-le-suc (subst (λ (z : ℕ). j < z) (add-one k) b)))
+
+module _ (d : ℕ → ℕ → Float) (ids slots : List ℕ) (a : ℕ) where
+  pub row-found : (lo hi : ℕ) (best : Best) → Found best → Found (range (meet d ids slots a) lo hi best)
+  unfolding meet
+  row-found lo hi best f = range-keeps Found (meet d ids slots a) lo hi best f (λ j t l r p. offer-found a (getD slots j 0) (d a (getD slots j 0)) (getD ids a 0) (getD ids (getD slots j 0) 0) t p)
+
+  -- a best that stands stays, over those that are too far off for it
+  skip-by : (n lo k : ℕ) (first best : Best) → best ≡ range (meet d ids slots a) lo k first → lo ≤ k → Found best
+      → ((j : ℕ) → k ≤ j → j < k + n → Far (d a (getD slots j 0)) (best .dist)) → best ≡ range (meet d ids slots a) lo (k + n) first
+  unfolding meet
+  skip-by zero lo k first best e l f h = e ∙ ap (λ (z : ℕ). range (meet d ids slots a) lo z first) (sym (add-zero k))
+  skip-by (suc n) lo k first best e l f h =
+      let r = skip-by n lo k first best e l f (λ j x y. h j x (omega arith)) in
+      let i = k + n in
+      sym (offer-far a (getD slots i 0) (d a (getD slots i 0)) (getD ids a 0) (getD ids (getD slots i 0) 0) best f (h i (omega arith) (omega arith)))
+      ∙ ap (meet d ids slots a i) r
+      ∙ sym (range-suc (meet d ids slots a) lo i first (omega arith))
+      ∙ ap (λ (z : ℕ). range (meet d ids slots a) lo z first) (sym (add-suc k n))
+
+  pub row-skip : (lo k hi : ℕ) (first best : Best) → best ≡ range (meet d ids slots a) lo k first → lo ≤ k → k ≤ hi → Found best
+      → ((j : ℕ) → k ≤ j → j < hi → Far (d a (getD slots j 0)) (best .dist)) → best ≡ range (meet d ids slots a) lo hi first
+  row-skip lo k hi first best e l u f h =
+      let z : k + (hi - k) ≡ hi = omega arith in
+      skip-by (hi - k) lo k first best e l f (λ j x y. h j x (omega arith)) ∙ ap (λ (i : ℕ). range (meet d ids slots a) lo i first) z
 
 -- ---- the scan, row by row: before row i, the first pair being taken at once
 

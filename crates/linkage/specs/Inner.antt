@@ -1,15 +1,16 @@
 -- What the private functions ask of one another and promise: may be skipped. The scan and the update over the places of the packed slots, whatever form the
 -- distances are held in (proofs/Packed.antt and proofs/Forms.antt have that they are those of specs/Merge.antt), and the arrays as a state. Definitions only.
-use Prim.Native.Nat.{ℕ, _+_}
+use Prim.Native.Nat.{ℕ, _+_, _-_, _≤_, _<_}
 use mathlib.Core.Path.{_≡_}
 use mathlib.Core.Bool.{Bool, true, false, not, _&&_, cond}
 use mathlib.Core.List.{List}
 use lib.Dec.{eqb}
-use lib.ListN.{getD, set}
+use lib.ListN.{length, getD, set}
 use lib.Ieee.{Float, nan}
 use Rattle.lent.specs.Range.{range}
 use Rattle.pairing.specs.declared.Best.{Best}
 use Rattle.pairing.specs.Pairing.{nothing, offer}
+use Rattle.pairing.specs.Inner.{Far}
 use Rattle.slots.specs.Inner.{packed}
 use Rattle.triangle.specs.declared.Form.{Form}
 use Rattle.triangle.specs.Inner.{readOf, writeOf, Holds}
@@ -37,6 +38,13 @@ meetRow d ids slots m i best = range (meet d ids slots (getD slots i 0)) (i + 1)
 unfoldable pub meetAll : (ℕ → ℕ → Float) → List ℕ → List ℕ → ℕ → Best
 unfolding meetRow
 meetAll d ids slots m = range (meetRow d ids slots m) 0 m nothing
+
+-- each slot at the places from lo to hi has a distance in its row; and each is too far off to replace a best at this distance
+abbrev pub OnRow : List Float → List ℕ → ℕ → ℕ → Type 0
+OnRow row slots lo hi = (j : ℕ) → lo ≤ j → j < hi → (0 < getD slots j 0) × (getD slots j 0 - 1 < length row)
+
+abbrev pub FarTo : List Float → List ℕ → Float → ℕ → ℕ → Type 0
+FarTo row slots limit lo hi = (j : ℕ) → lo ≤ j → j < hi → Far (getD row (getD slots j 0 - 1) nan) limit
 
 -- the distance of a live slot i, and of the slot at place j
 unfoldable pub drawn : Linkage → Form → ℕ → List Float → ℕ → ℕ → Float → ℕ → List Float → List Float

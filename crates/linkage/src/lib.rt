@@ -9,7 +9,7 @@ use tree::Node;
 use triangle::Form;
 ghost use mathlib.Core.List.{List, [], _∷_, _++_};
 ghost use mathlib.Core.Path.{_≡_};
-ghost use mathlib.Core.Bool.{Bool, cond};
+ghost use mathlib.Core.Bool.{Bool, true, cond};
 ghost use Prim.Native.Nat.{_+_, _-_, _*_, _<_, _≤_};
 ghost use lib.ListN.{length, take, drop, getD};
 ghost use lib.Ieee.{Float, nan};
@@ -22,7 +22,7 @@ ghost use Rattle.triangle.specs.Inner.{roomOf, readOf, writeOf, Lined, Holds};
 ghost use Rattle.linkage.specs.Names.{distanceNamed, linkageNamed};
 ghost use Rattle.linkage.specs.Merge.{wardF, updateF, step, copied, mergeRows};
 ghost use Rattle.linkage.specs.Pairs.{pairsVisited};
-ghost use Rattle.linkage.specs.Inner.{state, numbered, meet, meetAll, drawn, drawnAt, Stands, triedOf};
+ghost use Rattle.linkage.specs.Inner.{state, numbered, meet, meetAll, drawn, drawnAt, OnRow, FarTo, Stands, triedOf};
 ghost use Rattle.linkage.specs.Children.{childrenTable, childrenAnswer, childrenRows};
 
 pub enum Distance {
@@ -159,6 +159,21 @@ fn right(row: &[f64], b: usize) -> f64
     row[b - 1]
 }
 
+// The first place from `from` on whose slot is not too far off to replace a best at this distance, or m. Nearly all are: this loop is the merge step's time.
+fn next_near(row: &[f64], slots: &[usize; 64], from: usize, m: usize, limit: f64) -> usize
+    requires { ⌜ (m ≤ 64) × (from ≤ m) × OnRow (now row) (now slots) from m ⌝ }
+    ensures { λ r. ⌜ (from ≤ r) × (r ≤ m) × FarTo (now (row .entry)) (now (slots .entry)) limit from r ⌝ }
+{
+    let mut j = from;
+    while j < m {
+        if !pairing::is_far(right(row, slots[j]), limit) {
+            return j;
+        }
+        j = j + 1;
+    }
+    m
+}
+
 // The pairs of the slot at place i with those at places `from` to m - 1.
 fn scan_row(
     form: Form,
@@ -173,7 +188,7 @@ fn scan_row(
     first: Best,
 ) -> Looked
     requires { ⌜ (n ≤ 64) × (m ≤ 64) × (i < from) × (i < m) × (from ≤ m) × Below n m (now slots) × Rising m (now slots) × Lined form n (now shifts)
-        × (roomOf form n ≤ length (now d)) ⌝ }
+        × (roomOf form n ≤ length (now d)) × (first .found ≡ true) ⌝ }
     ensures { λ r. ⌜ (r .best ≡ range (meet (readOf form n (now (d .entry))) (now (ids .entry)) (now (slots .entry)) (getD (now (slots .entry)) i 0)) from m first)
         × (r .pairs + from ≡ m) ⌝ }
 {
@@ -182,13 +197,16 @@ fn scan_row(
     let shift = shifts[a];
     let row = &d[shift..]; // cut off once, so that a pair costs no addition
     let mut best = first;
-    let mut seen = 0usize;
-    for j in from..m {
+    let mut j = next_near(row, slots, from, m, best.dist);
+    while j < m {
         let b = slots[j];
         best = pairing::offered(Slot(a), Slot(b), right(row, b), p, Node(ids[b]), best);
-        seen = seen + 1;
+        j = next_near(row, slots, j + 1, m, best.dist);
     }
-    Looked { best, pairs: seen }
+    Looked {
+        best,
+        pairs: m - from,
+    }
 }
 
 // The pairs of the slots at m places, in order. The first is taken before the rows, so that no row asks whether there is a best.

@@ -2,9 +2,10 @@
 
 use tree::Node;
 ghost use mathlib.Core.Path.{_≡_};
-ghost use mathlib.Core.Bool.{true};
+ghost use mathlib.Core.Bool.{true, not};
 ghost use Prim.Native.Nat.{min, max};
-ghost use Rattle.pairing.specs.Pairing.{near, pairBefore, better, pair, offer};
+ghost use lib.Ieee.{binary64, sub, le};
+ghost use Rattle.pairing.specs.Pairing.{eps, near, pairBefore, better, pair, offer};
 ghost use Rattle.pairing.specs.Inner.{Far};
 
 // Distances no farther apart than this are a tie.
@@ -24,7 +25,8 @@ pub struct Best {
 }
 
 // A pair at distance x can never replace one at distance y: one test for both of `is_better`. Yes for NaN, of which neither holds.
-fn is_far(x: f64, y: f64) -> bool
+pub fn is_far(x: f64, y: f64) -> bool
+    ensures { λ r. ⌜ r ≡ not (le (sub binary64 x y) eps) ⌝ }
     ensures { λ r. ⌜ (r ≡ true → Far x y) ⌝ }
 {
     !(x - y <= EPS)

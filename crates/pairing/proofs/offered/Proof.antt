@@ -10,7 +10,7 @@ is-far-requires : tie.Need-is-far-requires
 is-far-requires c κs = search needs
 
 returns : tie.Need-returns
-returns c = sym (offer-far _ _ _ _ _ _ (c .before .before .if1 .taken) (c .before .is-far .ensures (c .if2 .taken)))
+returns c = sym (offer-far _ _ _ _ _ _ (c .before .before .if1 .taken) (c .before .is-far .ensures .1 (c .if2 .taken)))
 
 is-better-requires : tie.Need-is-better-requires
 is-better-requires c κs = search needs
