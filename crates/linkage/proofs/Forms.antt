@@ -21,7 +21,7 @@ use Rattle.slots.specs.Inner.{Below, Rising}
 use Rattle.triangle.specs.declared.Form.{Form}
 use Rattle.triangle.specs.declared.Form.the-variants.{Square, Triangle}
 use Rattle.triangle.specs.Triangle.{placeOf, isSquare, mirrored, upperOf}
-use Rattle.triangle.specs.Inner.{roomOf, readOf, writeOf, Lined, Holds}
+use Rattle.triangle.specs.Inner.{roomOf, heldAt, writeOf, Lined, Holds}
 use Rattle.triangle.proofs.Places.{less-off, triangle-room}
 use Rattle.triangle.proofs.Within.{place-right, place-left, within}
 use Rattle.triangle.proofs.Written.{length-write, square-read, holds-write, upper-length, holds-upper, holds-square}
@@ -60,13 +60,13 @@ wrote-triangle form n x i k v d t e = rw (e, t) refl
 -- ---- the scan: right of the diagonal alone, so that no slot meets itself
 
 pub scan-same : (form : Form) (n m : ℕ) (d cells : List Float) (ids slots : List ℕ) → Below n m slots → Rising m slots → Holds form n d cells
-    → meetAll (readOf form n d) ids slots m ≡ meetAll (cell cells n) ids slots m
+    → meetAll (heldAt form n d) ids slots m ≡ meetAll (cell cells n) ids slots m
 unfolding meetAll meetRow meet
 scan-same form n m d cells ids slots below rising h =
-    range-same (meetRow (readOf form n d) ids slots m) (meetRow (cell cells n) ids slots m) 0 m nothing
+    range-same (meetRow (heldAt form n d) ids slots m) (meetRow (cell cells n) ids slots m) 0 m nothing
     (λ i t l r.
     let a = getD slots i 0 in
-    range-same (meet (readOf form n d) ids slots a) (meet (cell cells n) ids slots a) (i + 1) m t
+    range-same (meet (heldAt form n d) ids slots a) (meet (cell cells n) ids slots a) (i + 1) m t
     (λ j u l′ r′.
     let b = getD slots j 0 in
     let lt : a < b = rising i j (omega arith) r′ in
@@ -93,11 +93,11 @@ module _ (form : Form) (n m : ℕ) (d : List Float) (slots shifts : List ℕ) (i
       (omega arith, omega (arith, ap length cut, length-drop shift d, w .0))
 
   pub row-same : (ids : List ℕ) (first : Best)
-      → range (meet (along row) ids slots (getD slots i 0)) from m first ≡ range (meet (readOf form n d) ids slots (getD slots i 0)) from m first
+      → range (meet (along row) ids slots (getD slots i 0)) from m first ≡ range (meet (heldAt form n d) ids slots (getD slots i 0)) from m first
   unfolding meet
   row-same ids first =
       let a = getD slots i 0 in
-      range-same (meet (along row) ids slots a) (meet (readOf form n d) ids slots a) from m first
+      range-same (meet (along row) ids slots a) (meet (heldAt form n d) ids slots a) from m first
       (λ j t x y.
       let b = getD slots j 0 in
       ap (λ (z : Float). offer a b z (getD ids a 0) (getD ids b 0) t)
@@ -123,8 +123,8 @@ holds-drawn l form n sizes x y dxy i d cells hx hy hi h =
     (λ q.
     let nx : x ≡ i → ⊥ = λ z. p (sym z) in
     let ny : y ≡ i → ⊥ = λ z. q (sym z) in
-    let a : readOf form n d x i ≡ readOf Square n cells x i = h .same x i hx hi nx ∙ sym (square-read n cells x i) in
-    let b : readOf form n d y i ≡ readOf Square n cells y i = h .same y i hy hi ny ∙ sym (square-read n cells y i) in
+    let a : heldAt form n d x i ≡ heldAt Square n cells x i = h .same x i hx hi nx ∙ sym (square-read n cells x i) in
+    let b : heldAt form n d y i ≡ heldAt Square n cells y i = h .same y i hy hi ny ∙ sym (square-read n cells y i) in
     rw (ne-eqb i x p, ne-eqb i y q, a, b) (holds-write form n x i _ d cells hx hi nx h))
     (same-or-not i y))
     (same-or-not i x)

@@ -17,7 +17,7 @@ use Rattle.slots.specs.Slots.{without}
 use Rattle.slots.specs.Inner.{packed, Below, Rising}
 use Rattle.slots.proofs.Packed.{lives, as-many, packed-length, packed-same, without-packed, slots-below, slots-rising}
 use Rattle.triangle.specs.declared.Form.{Form}
-use Rattle.triangle.specs.Inner.{readOf, Holds}
+use Rattle.triangle.specs.Inner.{heldAt, Holds}
 use Rattle.linkage.specs.declared.Linkage.{Linkage}
 use Rattle.linkage.specs.Merge.{State, scanAll, movedAll, merged, step, copied, start, stateAt}
 use Rattle.linkage.specs.Inner.{state, numbered, meetAll, drawnAt, Stands}
@@ -31,7 +31,7 @@ use Rattle.linkage.proofs.Forms.{scan-same, holds-moved}
 pub stepped : (l : Linkage) (form : Form) (n k m : ℕ) (d cells : List Float) (ids slots : List ℕ) (sizes : List Float) (rows : List ℕ) (live : List Bool) (best : Best)
     (d′ : List Float) (slots′ rows′ : List ℕ)
     → 2 ≤ m → m ≤ 64 → length slots ≡ 64 → Holds form n d cells → n ≤ length live → take m slots ≡ packed n live
-    → best ≡ meetAll (readOf form n d) ids slots m
+    → best ≡ meetAll (heldAt form n d) ids slots m
     → d′ ≡ range (drawnAt l form n sizes slots (best .a .0) (best .b .0) (best .dist)) 0 m d
     → slots′ ≡ over (without (best .b .0) (take m slots)) slots
     → rows′ ≡ rows ++ (best .low .0 ∷ best .high .0 ∷ [])

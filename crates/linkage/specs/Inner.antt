@@ -13,7 +13,7 @@ use Rattle.pairing.specs.Pairing.{nothing, offer}
 use Rattle.pairing.specs.Inner.{Far}
 use Rattle.slots.specs.Inner.{packed}
 use Rattle.triangle.specs.declared.Form.{Form}
-use Rattle.triangle.specs.Inner.{readOf, writeOf, Holds}
+use Rattle.triangle.specs.Inner.{heldAt, writeOf, Holds}
 use Rattle.linkage.specs.declared.Linkage.{Linkage}
 use Rattle.linkage.specs.declared.Tried.{Tried}
 use Rattle.linkage.specs.declared.Tried.the-variants.{Made, Lopsided}
@@ -51,7 +51,7 @@ unfoldable pub drawn : Linkage → Form → ℕ → List Float → ℕ → ℕ �
 unfolding writeOf
 drawn l form n sizes x y dxy i d =
     cond (not (eqb i x) && not (eqb i y))
-    (writeOf form n x i (updateF l (readOf form n d x i) (readOf form n d y i) dxy (getD sizes x nan) (getD sizes y nan) (getD sizes i nan)) d)
+    (writeOf form n x i (updateF l (heldAt form n d x i) (heldAt form n d y i) dxy (getD sizes x nan) (getD sizes y nan) (getD sizes i nan)) d)
     d
 
 unfoldable pub drawnAt : Linkage → Form → ℕ → List Float → List ℕ → ℕ → ℕ → Float → ℕ → List Float → List Float

@@ -18,7 +18,7 @@ ghost use Rattle.lent.specs.Grid.{over, zeros};
 ghost use Rattle.lent.specs.Range.{range};
 ghost use Rattle.slots.specs.Inner.{packed, Below, Rising};
 ghost use Rattle.triangle.specs.Triangle.{met, placeOf, mirrored};
-ghost use Rattle.triangle.specs.Inner.{roomOf, readOf, writeOf, Lined, Holds};
+ghost use Rattle.triangle.specs.Inner.{roomOf, heldAt, writeOf, Lined, Holds};
 ghost use Rattle.linkage.specs.Names.{distanceNamed, linkageNamed};
 ghost use Rattle.linkage.specs.Merge.{wardF, updateF, step, copied, mergeRows};
 ghost use Rattle.linkage.specs.Pairs.{pairsVisited};
@@ -145,7 +145,7 @@ fn place(form: Form, shifts: &[usize; 64], n: usize, r: usize, c: usize) -> usiz
 
 fn at(form: Form, shifts: &[usize; 64], d: &[f64], n: usize, r: usize, c: usize) -> f64
     requires { ⌜ (n ≤ 64) × (r < n) × (c < n) × (r ≡ c → ⊥) × Lined form n (now shifts) × (roomOf form n ≤ length (now d)) ⌝ }
-    ensures { λ x. ⌜ x ≡ readOf form n (now (d .entry)) r c ⌝ }
+    ensures { λ x. ⌜ x ≡ heldAt form n (now (d .entry)) r c ⌝ }
 {
     let k = place(form, shifts, n, r, c);
     d[k]
@@ -189,7 +189,7 @@ fn scan_row(
 ) -> Looked
     requires { ⌜ (n ≤ 64) × (m ≤ 64) × (i < from) × (i < m) × (from ≤ m) × Below n m (now slots) × Rising m (now slots) × Lined form n (now shifts)
         × (roomOf form n ≤ length (now d)) × (first .found ≡ true) ⌝ }
-    ensures { λ r. ⌜ (r .best ≡ range (meet (readOf form n (now (d .entry))) (now (ids .entry)) (now (slots .entry)) (getD (now (slots .entry)) i 0)) from m first)
+    ensures { λ r. ⌜ (r .best ≡ range (meet (heldAt form n (now (d .entry))) (now (ids .entry)) (now (slots .entry)) (getD (now (slots .entry)) i 0)) from m first)
         × (r .pairs + from ≡ m) ⌝ }
 {
     let a = slots[i];
@@ -221,7 +221,7 @@ fn scan_all(
 ) -> Looked
     requires { ⌜ (n ≤ 64) × (2 ≤ m) × (m ≤ 64) × Below n m (now slots) × Rising m (now slots) × Lined form n (now shifts)
         × (roomOf form n ≤ length (now d)) ⌝ }
-    ensures { λ r. ⌜ (r .best ≡ meetAll (readOf form n (now (d .entry))) (now (ids .entry)) (now (slots .entry)) m) × (r .pairs ≡ met m m) ⌝ }
+    ensures { λ r. ⌜ (r .best ≡ meetAll (heldAt form n (now (d .entry))) (now (ids .entry)) (now (slots .entry)) m) × (r .pairs ≡ met m m) ⌝ }
 {
     let a = slots[0];
     let b = slots[1];

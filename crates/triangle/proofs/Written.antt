@@ -14,7 +14,7 @@ use Rattle.lent.proofs.Range.{range-keeps, range-hits}
 use Rattle.triangle.specs.declared.Form.{Form}
 use Rattle.triangle.specs.declared.Form.the-variants.{Square, Triangle}
 use Rattle.triangle.specs.Triangle.{placeOf, upperRow, upperOf}
-use Rattle.triangle.specs.Inner.{roomOf, readOf, writeOf, Holds}
+use Rattle.triangle.specs.Inner.{roomOf, heldAt, writeOf, Holds}
 use Rattle.triangle.proofs.Places.{place-in, place-one, square-one, mirror-place, tri-one, tri-up, order}
 
 -- ---- a write
@@ -26,25 +26,25 @@ length-write Triangle n x i v d = length-set d (placeOf Triangle n x i) v
 
 -- what is written stands where it was put
 put-read : (form : Form) (n x i : ℕ) (v : Float) (d : List Float) → x < n → i < n → (x ≡ i → ⊥) → roomOf form n ≤ length d
-    → readOf form n (set d (placeOf form n x i) v) x i ≡ v
+    → heldAt form n (set d (placeOf form n x i) v) x i ≡ v
 put-read form n x i v d hx hi ne fit = getD-set-same d (placeOf form n x i) v nan (lt-of-lt-of-le (place-in form n x i hx hi ne) fit)
 
 -- and everywhere else what stood there
 put-keeps : (form : Form) (n x i : ℕ) (v : Float) (d : List Float) → x < n → i < n → (x ≡ i → ⊥)
-    → (r c : ℕ) → r < n → c < n → (r ≡ c → ⊥) → (r ≡ x → c ≡ i → ⊥) → (r ≡ i → c ≡ x → ⊥) → readOf form n (set d (placeOf form n x i) v) r c ≡ readOf form n d r c
+    → (r c : ℕ) → r < n → c < n → (r ≡ c → ⊥) → (r ≡ x → c ≡ i → ⊥) → (r ≡ i → c ≡ x → ⊥) → heldAt form n (set d (placeOf form n x i) v) r c ≡ heldAt form n d r c
 put-keeps form n x i v d hx hi ne r c hr hc nd p q =
     getD-set-other d (placeOf form n x i) (placeOf form n r c) v nan
     (λ e. ⊎-elim (λ w. p (w .0) (w .1)) (λ w. q (w .0) (w .1)) (place-one form n r c x i hr hc nd hx hi ne e))
 
 module _ (n x i : ℕ) (v : Float) (hx : x < n) (hi : i < n) (ne : x ≡ i → ⊥) where
-  write-second : (form : Form) (d : List Float) → roomOf form n ≤ length d → readOf form n (writeOf form n x i v d) i x ≡ v
+  write-second : (form : Form) (d : List Float) → roomOf form n ≤ length d → heldAt form n (writeOf form n x i v d) i x ≡ v
   unfolding writeOf
   write-second Square d fit =
       put-read Square n i x v (set d (placeOf Square n x i) v) hi hx (λ q. ne (sym q)) (rw (length-set d (placeOf Square n x i) v) fit)
   write-second Triangle d fit =
       ap (λ (k : ℕ). getD (set d (placeOf Triangle n x i) v) k nan) (mirror-place n i x (λ q. ne (sym q))) ∙ put-read Triangle n x i v d hx hi ne fit
 
-  write-first : (form : Form) (d : List Float) → roomOf form n ≤ length d → readOf form n (writeOf form n x i v d) x i ≡ v
+  write-first : (form : Form) (d : List Float) → roomOf form n ≤ length d → heldAt form n (writeOf form n x i v d) x i ≡ v
   unfolding writeOf
   write-first Square d fit =
       getD-set-other (set d (placeOf Square n x i) v) (placeOf Square n i x) (placeOf Square n x i) v nan (λ e. ne (square-one n x i i x hi hx e .0))
@@ -52,14 +52,14 @@ module _ (n x i : ℕ) (v : Float) (hx : x < n) (hi : i < n) (ne : x ≡ i → �
   write-first Triangle d fit = put-read Triangle n x i v d hx hi ne fit
 
   write-other : (form : Form) (d : List Float) (r c : ℕ) → r < n → c < n → (r ≡ c → ⊥) → (r ≡ x → c ≡ i → ⊥) → (r ≡ i → c ≡ x → ⊥)
-      → readOf form n (writeOf form n x i v d) r c ≡ readOf form n d r c
+      → heldAt form n (writeOf form n x i v d) r c ≡ heldAt form n d r c
   unfolding writeOf
   write-other Square d r c hr hc nd p q =
       put-keeps Square n i x v (set d (placeOf Square n x i) v) hi hx (λ z. ne (sym z)) r c hr hc nd q p
       ∙ put-keeps Square n x i v d hx hi ne r c hr hc nd p q
   write-other Triangle d r c hr hc nd p q = put-keeps Triangle n x i v d hx hi ne r c hr hc nd p q
 
-pub square-read : (n : ℕ) (d : List Float) (r c : ℕ) → readOf Square n d r c ≡ cell d n r c
+pub square-read : (n : ℕ) (d : List Float) (r c : ℕ) → heldAt Square n d r c ≡ cell d n r c
 unfolding placeOf
 square-read n d r c = refl
 
@@ -100,7 +100,7 @@ module _ (n : ℕ) (xs : List Float) (r c : ℕ) (h : r < c) (hc : c < n) where
   off q = lt-irrefl _ (subst (λ (z : ℕ). r < z) (sym q) h)
 
   abbrev There : List Float → Type 0
-  There t = roomOf Triangle n ≤ length t → readOf Triangle n t r c ≡ cell xs n r c
+  There t = roomOf Triangle n ≤ length t → heldAt Triangle n t r c ≡ cell xs n r c
 
   put-here : (t : List Float) → There (set t (placeOf Triangle n r c) (cell xs n r c))
   put-here t fit =
@@ -150,7 +150,7 @@ holds-upper n xs cells d e m is full made fit =
     let f : roomOf Triangle n ≤ length (upperOf n xs e) = rw (upper-length n xs e) fit in
     record {
       same = λ r c hr hc ne.
-          ap (λ (t : List Float). readOf Triangle n t r c) made
+          ap (λ (t : List Float). heldAt Triangle n t r c) made
           ∙ ⊎-elim
           (λ l. upper-at n xs r c l hc e f)
           (λ l. ap (λ (k : ℕ). getD (upperOf n xs e) k nan) (mirror-place n r c ne) ∙ upper-at n xs c r l hr e f ∙ m c r hc hr)

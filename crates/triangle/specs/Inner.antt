@@ -16,8 +16,8 @@ roomOf Square n = n * n
 roomOf Triangle n = met n n
 
 -- the distance between r and c, read, and written: in both cells, or in their one place
-abbrev pub readOf : Form → ℕ → List Float → ℕ → ℕ → Float
-readOf form n d r c = getD d (placeOf form n r c) nan
+abbrev pub heldAt : Form → ℕ → List Float → ℕ → ℕ → Float
+heldAt form n d r c = getD d (placeOf form n r c) nan
 
 unfoldable pub writeOf : Form → ℕ → ℕ → ℕ → Float → List Float → List Float
 unfolding placeOf
@@ -30,6 +30,6 @@ Lined form n shifts = (r : ℕ) → r < n → getD shifts r 0 ≡ shiftAt form n
 
 -- d holds what the cells of an n by n matrix are, off the diagonal
 pub record Holds (form : Form) (n : ℕ) (d cells : List Float) : Type 0 where
-  pub same : (r c : ℕ) → r < n → c < n → (r ≡ c → ⊥) → readOf form n d r c ≡ cell cells n r c
+  pub same : (r c : ℕ) → r < n → c < n → (r ≡ c → ⊥) → heldAt form n d r c ≡ cell cells n r c
   pub room : roomOf form n ≤ length d
   pub full : n * n ≤ length cells

@@ -4,7 +4,7 @@ use Prim.Native.Nat.{_*_}
 use mathlib.Core.Path.{sym, subst, _∙_}
 use denote.Ref.{now}
 use lib.ListN.{take}
-use Rattle.triangle.specs.Inner.{readOf}
+use Rattle.triangle.specs.Inner.{heldAt}
 use Rattle.linkage.proofs.Scan.{In}
 use Rattle.linkage.proofs.Packed.{all-in}
 use Rattle.linkage.proofs.Stepped.{stepped}
@@ -17,7 +17,7 @@ slots : (c : tie.After-scan-all) → In (c .before .before .before .before .befo
 slots c =
     let s = c .before .before .before .before .before .before in
     let g = s .args in
-    subst (In (g .n)) (sym (c .scan-all .ensures .0)) (all-in (g .n) (g .m) (readOf (g .form) (g .n) (now (g .d))) (now (g .ids)) (now (g .slots)) (s .pre .4) (omega (arith, s .pre .1)))
+    subst (In (g .n)) (sym (c .scan-all .ensures .0)) (all-in (g .n) (g .m) (heldAt (g .form) (g .n) (now (g .d))) (now (g .ids)) (now (g .slots)) (s .pre .4) (omega (arith, s .pre .1)))
 
 scan-all-requires : tie.Need-scan-all-requires
 scan-all-requires c κs =
