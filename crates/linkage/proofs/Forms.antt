@@ -20,27 +20,28 @@ use Rattle.pairing.specs.declared.Best.{Best}
 use Rattle.slots.specs.Inner.{Below, Rising}
 use Rattle.triangle.specs.declared.Form.{Form}
 use Rattle.triangle.specs.declared.Form.the-variants.{Square, Triangle}
-use Rattle.triangle.specs.Triangle.{placeOf, isSquare, mirrored, upperOf}
+use Rattle.triangle.specs.Triangle.{met, placeOf, hasRoom, mirrored, upperOf}
 use Rattle.triangle.specs.Inner.{roomOf, heldAt, writeOf, Lined, Holds}
-use Rattle.triangle.proofs.Places.{less-off, triangle-room}
+use Rattle.triangle.proofs.Places.{less-off}
 use Rattle.triangle.proofs.Within.{place-right, place-left, within}
-use Rattle.triangle.proofs.Written.{length-write, square-read, holds-write, upper-length, holds-upper, holds-square}
+use Rattle.triangle.proofs.Written.{length-write, square-read, holds-write, holds-upper, holds-square}
 use Rattle.triangle.proofs.Meaning.{mirrored-cells}
 use Rattle.linkage.specs.declared.Linkage.{Linkage}
+use Rattle.linkage.specs.declared.Merging.{Merging}
 use Rattle.linkage.specs.declared.Tried.{Tried}
 use Rattle.linkage.specs.declared.Tried.the-variants.{Made, Lopsided}
-use Rattle.linkage.specs.Merge.{nothing, offer, copied}
-use Rattle.linkage.specs.Inner.{meet, meetRow, meetAll, drawn, drawnAt, triedOf}
+use Rattle.linkage.specs.Merge.{nothing, offer, updateF, copied}
+use Rattle.linkage.specs.Inner.{meet, meetRow, meetAll, Merges, drawn, drawnAt, triedOf}
 
 -- ---- the accessor
 
 pub lower : (r c : ℕ) → (r ≡ c → ⊥) → c ≤ r → c < r
 lower r c ne l = ⊎-elim (λ q. absurd (ne (sym q))) (λ z. z) (eq-or-lt-of-le l)
 
-pub below-place : (form : Form) (n r c k : ℕ) (shifts : List ℕ) → form ≡ Triangle → n ≤ 64 → c ≤ r → (r ≡ c → ⊥) → r < n → Lined form n shifts → k ≡ getD shifts c 0
+pub below-place : (form : Form) (n r c k : ℕ) (shifts : List ℕ) → form ≡ Triangle → c ≤ r → (r ≡ c → ⊥) → r < n → Lined form n shifts → k ≡ getD shifts c 0
     → k + (r - 1) ≡ placeOf form n r c
-below-place form n r c k shifts t h l ne hr lined e =
-    place-left n r c k shifts h (lower r c ne l) hr (subst (λ (f : Form). Lined f n shifts) t lined) e ∙ ap (λ (f : Form). placeOf f n r c) (sym t)
+below-place form n r c k shifts t l ne hr lined e =
+    place-left n r c k shifts (lower r c ne l) hr (subst (λ (f : Form). Lined f n shifts) t lined) e ∙ ap (λ (f : Form). placeOf f n r c) (sym t)
 
 -- what is written: both cells of the square, the one place of the triangle
 pub square-cell : (form : Form) (n i x room : ℕ) → form ≡ Square → i < n → x < n → roomOf form n ≤ room → i * n + x < room
@@ -82,7 +83,7 @@ cut-off d k = ap (λ (j : ℕ). take j (drop k d)) (sym (length-drop k d)) ∙ t
 module _ (form : Form) (n m : ℕ) (d : List Float) (slots shifts : List ℕ) (i from shift : ℕ) (row : List Float) (h : n ≤ 64) (l : i < from) (below : Below n m slots) (rising : Rising m slots)
     (lined : Lined form n shifts) (fit : roomOf form n ≤ length d) (e : shift ≡ getD shifts (getD slots i 0) 0) (cut : row ≡ drop shift d) where
   at-slot : (j : ℕ) → from ≤ j → j < m → shift + (getD slots j 0 - 1) ≡ placeOf form n (getD slots i 0) (getD slots j 0)
-  at-slot j x y = place-right form n (getD slots i 0) (getD slots j 0) shift shifts h (rising i j (omega arith) y) (below j y) lined e
+  at-slot j x y = place-right form n (getD slots i 0) (getD slots j 0) shift shifts (rising i j (omega arith) y) (below j y) lined e
 
   pub row-long : (j : ℕ) → from ≤ j → j < m → (0 < getD slots j 0) × (getD slots j 0 - 1 < length row)
   row-long j x y =
@@ -104,6 +105,15 @@ module _ (form : Form) (n m : ℕ) (d : List Float) (slots shifts : List ℕ) (i
       (ap (λ (q : List Float). getD q (b - 1) nan) cut ∙ getD-drop shift d (b - 1) nan ∙ ap (λ (k : ℕ). getD d k nan) (at-slot j x y)))
 
 -- ---- the update
+
+-- one slot's, from what the code reads: the distance at its place k, and the sizes that go with the pair
+pub drawn-by : (l : Linkage) (form : Form) (n : ℕ) (sizes : List Float) (pair : Merging) (i k : ℕ) (d d′ : List Float) (z v : Float) → Merges n sizes pair → (i ≡ pair .x .0 → ⊥) → (i ≡ pair .y .0 → ⊥)
+    → k ≡ placeOf form n (pair .x .0) i → z ≡ heldAt form n d (pair .y .0) i → v ≡ updateF l (getD d k nan) z (pair .dxy) (pair .nx) (pair .ny) (getD sizes i nan)
+    → d′ ≡ writeOf form n (pair .x .0) i v d → d′ ≡ drawn l form n sizes (pair .x .0) (pair .y .0) (pair .dxy) i d
+unfolding drawn
+drawn-by l form n sizes pair i k d d′ z v m p q e f is made =
+    rw (ne-eqb i (pair .x .0) p, ne-eqb i (pair .y .0) q, ← e, ← f, ← m .of-first, ← m .of-second)
+    (made ∙ ap (λ (u : Float). writeOf form n (pair .x .0) i u d) is)
 
 pub length-drawn : (l : Linkage) (form : Form) (n : ℕ) (sizes : List Float) (x y : ℕ) (dxy : Float) (i : ℕ) (d : List Float)
     → length (drawn l form n sizes x y dxy i d) ≡ length d
@@ -169,27 +179,25 @@ pub start-square : (n : ℕ) (xs d : List Float) → n ≤ 64 → d ≡ range (c
 start-square n xs d h e = (ap length e ∙ copied-length xs (n * n), holds-square n d _ e (start-full n xs h))
 
 -- the cells above the diagonal, of a matrix of doubles in which each is its mirror
-pub start-triangle : (n : ℕ) (xs d : List Float) → n ≤ 64 → ((k : ℕ) → T (fits binary64 (getD xs k nan))) → mirrored n xs ≡ true → d ≡ upperOf n xs (zeros 2016)
+pub start-triangle : (n : ℕ) (xs d e : List Float) → n ≤ 64 → ((k : ℕ) → T (fits binary64 (getD xs k nan))) → mirrored n xs ≡ true → d ≡ upperOf n xs e → met n n ≤ length e
     → Holds Triangle n d (range (copied xs) 0 (n * n) (zeros 4096))
-start-triangle n xs d h f m e =
-    holds-upper n xs (range (copied xs) 0 (n * n) (zeros 4096)) d (zeros 2016) (mirrored-cells n xs f m)
+unfolding roomOf
+start-triangle n xs d e h f m made fit =
+    holds-upper n xs (range (copied xs) 0 (n * n) (zeros 4096)) d e (mirrored-cells n xs f m)
     (λ r c hr hc. copied-at xs (n * n) (square-in n h) (r * n + c) (cell-lt n n r c hr hc))
-    (start-full n xs h) e (rw (length-replicate 2016 pz) (triangle-room n h))
+    (start-full n xs h) made fit
 
--- ---- what the filling tells of an n by n matrix of at most 64, and what the triangle gave
+-- ---- what the filling tells of an n by n matrix of at most 64 for which there is room, and what the triangle gave
 
-full-square : (n : ℕ) (xs : List Float) → n ≤ 64 → length xs ≡ n * n → isSquare n xs ≡ true
-unfolding isSquare
-full-square n xs h e = rw (le-leb n 64 h, eq-eqb (length xs) (n * n) e) refl
+room-for : (n : ℕ) (xs d : List Float) → n ≤ 64 → length xs ≡ n * n → met n n ≤ length d → hasRoom n xs d ≡ true
+unfolding hasRoom
+room-for n xs d h e fit = rw (le-leb n 64 h, eq-eqb (length xs) (n * n) e, le-leb (met n n) (length d) fit) refl
 
-pub told-mirrored : (n : ℕ) (xs : List Float) (z : Bool) → n ≤ 64 → length xs ≡ n * n → z ≡ (isSquare n xs && mirrored n xs) → z ≡ mirrored n xs
-told-mirrored n xs z h e t = t ∙ rw (full-square n xs h e) refl
+pub told-mirrored : (n : ℕ) (xs d : List Float) (z : Bool) → n ≤ 64 → length xs ≡ n * n → met n n ≤ length d → z ≡ (hasRoom n xs d && mirrored n xs) → z ≡ mirrored n xs
+told-mirrored n xs d z h e fit t = t ∙ rw (room-for n xs d h e fit) refl
 
-pub told-upper : (n : ℕ) (xs d e : List Float) → n ≤ 64 → length xs ≡ n * n → d ≡ cond (isSquare n xs) (upperOf n xs e) e → d ≡ upperOf n xs e
-told-upper n xs d e h l t = t ∙ rw (full-square n xs h l) refl
-
-pub upper-room : (n : ℕ) (xs d : List Float) → d ≡ upperOf n xs (zeros 2016) → length d ≡ 2016
-upper-room n xs d e = ap length e ∙ upper-length n xs (zeros 2016) ∙ length-replicate 2016 pz
+pub told-upper : (n : ℕ) (xs d e : List Float) → n ≤ 64 → length xs ≡ n * n → met n n ≤ length e → d ≡ cond (hasRoom n xs e) (upperOf n xs e) e → d ≡ upperOf n xs e
+told-upper n xs d e h l fit t = t ∙ rw (room-for n xs e h l fit) refl
 
 isMade : Tried → Bool
 isMade (Made pairs) = true

@@ -136,16 +136,16 @@ agree-all d v n h =
 
 -- the code's arrays at the start
 pub start-front : (n : ℕ) (xs : List Float) → n ≤ 64
-    → Front n (state (range (copied xs) 0 (n * n) (zeros 4096)) (range numbered 0 64 (replicate 64 0)) (replicate n true) (replicate 64 unit) []) (start n xs)
+    → Front n (state (range (copied xs) 0 (n * n) (zeros 4096)) (range numbered 0 n (replicate 64 0)) (replicate n true) (replicate 64 unit) []) (start n xs)
 unfolding start
 start-front n xs h =
-    let r = numbered-at 64 (omega arith) in
+    let r = numbered-at n h in
     record {
       cells = refl;
       ids = record {
         long = rw (r .0) h;
         wide = rw (length-tab n (λ k. k)) (omega arith);
-        same = λ c k. r .1 c (omega arith) ∙ sym (getD-tab n (λ k. k) c 0 k);
+        same = λ c k. r .1 c k ∙ sym (getD-tab n (λ k. k) c 0 k);
       };
       live = agree-own false n (replicate n true) (rw (length-replicate n true) (omega arith));
       sizes = agree-all nan unit n h;

@@ -65,11 +65,11 @@ module _ (n m : ℕ) (slots : List ℕ) (live : List Bool) (fit : m ≤ length s
 
 -- ---- the start: slot k at place k
 
-pub packed-start : (n m : ℕ) → n ≤ m → m ≤ 64 → take n (range numbered 0 64 (replicate 64 0)) ≡ packed n (replicate m true)
+pub packed-start : (n m : ℕ) → n ≤ m → m ≤ 64 → take n (range numbered 0 m (replicate 64 0)) ≡ packed n (replicate m true)
 packed-start zero m h b = unfold packed in refl
 packed-start (suc n) m h b =
-    let l = range numbered 0 64 (replicate 64 0) in
-    let r = numbered-at 64 (omega arith) in
+    let l = range numbered 0 m (replicate 64 0) in
+    let r = numbered-at m b in
     take-suc l n 0 (omega (arith, r .0))
     ∙ ap (λ (k : ℕ). take n l ++ (k ∷ [])) (r .1 n (omega arith))
     ∙ ap (λ (p : List ℕ). p ++ (n ∷ [])) (packed-start n m (omega arith) b)

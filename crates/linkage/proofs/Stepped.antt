@@ -74,7 +74,7 @@ pub record Shown (form : Form) (n : ℕ) (s : State) (d : List Float) (ids slots
   pub places : slots ≡ packed n (s .live)
 
 pub shown-start : (l : Linkage) (form : Form) (n : ℕ) (xs d : List Float) (ids slots : List ℕ) (sizes : List Float) (rows : List ℕ) → n ≤ 64
-    → Holds form n d (range (copied xs) 0 (n * n) (zeros 4096)) → ids ≡ range numbered 0 64 (replicate 64 0) → slots ≡ range numbered 0 64 (replicate 64 0)
+    → Holds form n d (range (copied xs) 0 (n * n) (zeros 4096)) → ids ≡ range numbered 0 n (replicate 64 0) → slots ≡ range numbered 0 n (replicate 64 0)
     → sizes ≡ replicate 64 unit
     → Shown form n (stateAt l n xs 0) d ids (take (n - 0) slots) sizes (take (2 * 0) rows)
 unfolding stateAt start

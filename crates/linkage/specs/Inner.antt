@@ -15,6 +15,7 @@ use Rattle.slots.specs.Inner.{packed}
 use Rattle.triangle.specs.declared.Form.{Form}
 use Rattle.triangle.specs.Inner.{heldAt, writeOf, Holds}
 use Rattle.linkage.specs.declared.Linkage.{Linkage}
+use Rattle.linkage.specs.declared.Merging.{Merging}
 use Rattle.linkage.specs.declared.Tried.{Tried}
 use Rattle.linkage.specs.declared.Tried.the-variants.{Made, Lopsided}
 use Rattle.linkage.specs.Merge.{State, updateF}
@@ -45,6 +46,13 @@ OnRow row slots lo hi = (j : ℕ) → lo ≤ j → j < hi → (0 < getD slots j 
 
 abbrev pub FarTo : List Float → List ℕ → Float → ℕ → ℕ → Type 0
 FarTo row slots limit lo hi = (j : ℕ) → lo ≤ j → j < hi → Far (getD row (getD slots j 0 - 1) nan) limit
+
+-- the slots of a pair that is merged are below n, and its sizes are theirs
+pub record Merges (n : ℕ) (sizes : List Float) (pair : Merging) : Type 0 where
+  pub first : pair .x .0 < n
+  pub second : pair .y .0 < n
+  pub of-first : pair .nx ≡ getD sizes (pair .x .0) nan
+  pub of-second : pair .ny ≡ getD sizes (pair .y .0) nan
 
 -- the distance of a live slot i, and of the slot at place j
 unfoldable pub drawn : Linkage → Form → ℕ → List Float → ℕ → ℕ → Float → ℕ → List Float → List Float

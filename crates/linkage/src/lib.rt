@@ -16,13 +16,14 @@ ghost use lib.Ieee.{Float, nan};
 ghost use Rattle.refusal.specs.Table.{first};
 ghost use Rattle.lent.specs.Grid.{over, zeros};
 ghost use Rattle.lent.specs.Range.{range};
+ghost use Rattle.pairing.specs.Inner.{Far};
 ghost use Rattle.slots.specs.Inner.{packed, Below, Rising};
 ghost use Rattle.triangle.specs.Triangle.{met, placeOf, mirrored};
 ghost use Rattle.triangle.specs.Inner.{roomOf, heldAt, writeOf, Lined, Holds};
 ghost use Rattle.linkage.specs.Names.{distanceNamed, linkageNamed};
 ghost use Rattle.linkage.specs.Merge.{wardF, updateF, step, copied, mergeRows};
 ghost use Rattle.linkage.specs.Pairs.{pairsVisited};
-ghost use Rattle.linkage.specs.Inner.{state, numbered, meet, meetAll, drawn, drawnAt, OnRow, FarTo, Stands, triedOf};
+ghost use Rattle.linkage.specs.Inner.{state, numbered, meet, meetAll, drawn, drawnAt, Merges, OnRow, FarTo, Stands, triedOf};
 ghost use Rattle.linkage.specs.Children.{childrenTable, childrenAnswer, childrenRows};
 
 pub enum Distance {
@@ -57,6 +58,15 @@ pub enum Joined {
 struct Looked {
     best: Best,
     pairs: usize,
+}
+
+// The slots that are merged, the distance between them, and their sizes.
+struct Merging {
+    x: Slot,
+    y: Slot,
+    dxy: f64,
+    nx: f64,
+    ny: f64,
 }
 
 // What the triangle gave: the pairs looked at, or nothing, where some cell is not its mirror.
@@ -159,17 +169,33 @@ fn right(row: &[f64], b: usize) -> f64
     row[b - 1]
 }
 
-// The first place from `from` on whose slot is not too far off to replace a best at this distance, or m. Nearly all are: this loop is the merge step's time.
+// The slot at place j is too far off to replace a best at this distance.
+fn is_far_at(row: &[f64], slots: &[usize; 64], j: usize, limit: f64) -> bool
+    requires { ⌜ (j < 64) × (0 < getD (now slots) j 0) × (getD (now slots) j 0 - 1 < length (now row)) ⌝ }
+    ensures { λ r. ⌜ (r ≡ true → Far (getD (now (row .entry)) (getD (now (slots .entry)) j 0 - 1) nan) limit) ⌝ }
+{
+    pairing::is_far(right(row, slots[j]), limit)
+}
+
+// The first place from `from` on whose slot is not too far off, or m. Nearly all are: this loop is the merge step's time, and takes two places at a turn.
 fn next_near(row: &[f64], slots: &[usize; 64], from: usize, m: usize, limit: f64) -> usize
     requires { ⌜ (m ≤ 64) × (from ≤ m) × OnRow (now row) (now slots) from m ⌝ }
     ensures { λ r. ⌜ (from ≤ r) × (r ≤ m) × FarTo (now (row .entry)) (now (slots .entry)) limit from r ⌝ }
 {
     let mut j = from;
-    while j < m {
-        if !pairing::is_far(right(row, slots[j]), limit) {
+    while j + 1 < m {
+        if !is_far_at(row, slots, j, limit) {
             return j;
         }
-        j = j + 1;
+        if !is_far_at(row, slots, j + 1, limit) {
+            return j + 1;
+        }
+        j = j + 2;
+    }
+    if j < m {
+        if !is_far_at(row, slots, j, limit) {
+            return j;
+        }
     }
     m
 }
@@ -243,12 +269,11 @@ fn scan_all(
     Looked { best, pairs }
 }
 
-// The distance between slots x and i: in both cells, or in their one place.
-fn put_both(form: Form, shifts: &[usize; 64], d: &mut [f64], n: usize, x: usize, i: usize, v: f64)
-    requires { ⌜ (n ≤ 64) × (x < n) × (i < n) × (x ≡ i → ⊥) × Lined form n (now shifts) × (roomOf form n ≤ length (now d)) ⌝ }
+// The distance between slots x and i, whose place is k: there, and in the square form across the diagonal too.
+fn put_both(form: Form, d: &mut [f64], n: usize, k: usize, x: usize, i: usize, v: f64)
+    requires { ⌜ (n ≤ 64) × (x < n) × (i < n) × (x ≡ i → ⊥) × (k ≡ placeOf form n x i) × (roomOf form n ≤ length (now d)) ⌝ }
     ensures { λ _. ⌜ now (d .exit) ≡ writeOf form n x i v (now (d .entry)) ⌝ }
 {
-    let k = place(form, shifts, n, x, i);
     d[k] = v;
     if let Form::Square = form {
         d[i * n + x] = v;
@@ -262,28 +287,27 @@ fn move_one(
     n: usize,
     d: &mut [f64],
     sizes: &[f64; 64],
-    x: Slot,
-    y: Slot,
-    d_xy: f64,
+    pair: Merging,
     other: Slot,
 )
-    requires { ⌜ (n ≤ 64) × (x .0 < n) × (y .0 < n) × (other .0 < n) × Lined form n (now shifts) × (roomOf form n ≤ length (now d)) ⌝ }
-    ensures { λ _. ⌜ now (d .exit) ≡ drawn method form n (now (sizes .entry)) (x .0) (y .0) «d_xy» (other .0) (now (d .entry)) ⌝ }
+    requires { ⌜ (n ≤ 64) × (other .0 < n) × Lined form n (now shifts) × (roomOf form n ≤ length (now d)) × Merges n (now sizes) pair ⌝ }
+    ensures { λ _. ⌜ now (d .exit) ≡ drawn method form n (now (sizes .entry)) (pair .x .0) (pair .y .0) (pair .dxy) (other .0) (now (d .entry)) ⌝ }
 {
-    let p = x.0;
-    let q = y.0;
+    let p = pair.x.0;
+    let q = pair.y.0;
     let i = other.0;
     if i != p {
         if i != q {
+            let k = place(form, shifts, n, p, i);
             let v = method.update(
-                at(form, shifts, d, n, p, i),
+                d[k],
                 at(form, shifts, d, n, q, i),
-                d_xy,
-                sizes[p],
-                sizes[q],
+                pair.dxy,
+                pair.nx,
+                pair.ny,
                 sizes[i],
             );
-            put_both(form, shifts, d, n, p, i, v);
+            put_both(form, d, n, k, p, i, v);
         }
     }
 }
@@ -297,27 +321,13 @@ fn move_all(
     sizes: &[f64; 64],
     slots: &[usize; 64],
     m: usize,
-    x: Slot,
-    y: Slot,
-    d_xy: f64,
+    pair: Merging,
 )
-    requires { ⌜ (n ≤ 64) × (m ≤ 64) × (x .0 < n) × (y .0 < n) × Below n m (now slots) × Lined form n (now shifts)
-        × (roomOf form n ≤ length (now d)) ⌝ }
-    ensures { λ _. ⌜ now (d .exit) ≡ range (drawnAt method form n (now (sizes .entry)) (now (slots .entry)) (x .0) (y .0) «d_xy») 0 m (now (d .entry)) ⌝ }
+    requires { ⌜ (n ≤ 64) × (m ≤ 64) × Below n m (now slots) × Lined form n (now shifts) × (roomOf form n ≤ length (now d)) × Merges n (now sizes) pair ⌝ }
+    ensures { λ _. ⌜ now (d .exit) ≡ range (drawnAt method form n (now (sizes .entry)) (now (slots .entry)) (pair .x .0) (pair .y .0) (pair .dxy)) 0 m (now (d .entry)) ⌝ }
 {
     for j in 0..m {
-        move_one(
-            method,
-            form,
-            shifts,
-            n,
-            d,
-            sizes,
-            x,
-            y,
-            d_xy,
-            Slot(slots[j]),
-        );
+        move_one(method, form, shifts, n, d, sizes, pair, Slot(slots[j]));
     }
 }
 
@@ -358,12 +368,19 @@ fn step_once(
     let best = looked.best;
     let x = best.a;
     let y = best.b;
-    move_all(method, form, shifts, n, d, sizes, slots, m, x, y, best.dist);
     let p = x.0;
     let q = y.0;
+    let pair = Merging {
+        x,
+        y,
+        dxy: best.dist,
+        nx: sizes[p],
+        ny: sizes[q],
+    };
+    move_all(method, form, shifts, n, d, sizes, slots, m, pair);
     let merged = Node(n + k);
     ids[p] = merged.0;
-    sizes[p] = sizes[p] + sizes[q];
+    sizes[p] = pair.nx + pair.ny;
     slots::close_gap(slots, m, q);
     put_row(rows, k, best.low, best.high);
     looked.pairs
@@ -386,11 +403,12 @@ fn leaf(asset: Asset) -> Node
     Node(asset.0)
 }
 
-// Slot k begins with asset k.
-fn number(ids: &mut [usize; 64])
-    ensures { λ _. ⌜ now (ids .exit) ≡ range numbered 0 64 (now (ids .entry)) ⌝ }
+// Slot k begins with asset k, of n.
+fn number(ids: &mut [usize; 64], n: usize)
+    requires { ⌜ n ≤ 64 ⌝ }
+    ensures { λ _. ⌜ now (ids .exit) ≡ range numbered 0 n (now (ids .entry)) ⌝ }
 {
-    for k in 0..64 {
+    for k in 0..n {
         let id = leaf(Asset(k));
         ids[k] = id.0;
     }
@@ -414,8 +432,8 @@ fn steps(
     let mut slots = [0usize; 64];
     let mut shifts = [0usize; 64];
     let mut sizes = [1.0; 64];
-    number(&mut ids);
-    number(&mut slots);
+    number(&mut ids, n);
+    number(&mut slots, n);
     triangle::shifts(form, n, &mut shifts);
     let mut pairs = 0;
     for k in 0..merges(n) {
@@ -447,18 +465,49 @@ fn in_square(method: Linkage, n: usize, xs: &[f64], rows: &mut [usize]) -> usize
     steps(method, Form::Square, n, xs, &mut d, rows)
 }
 
-// The same rows from the cells above the diagonal, 2,016 at most, where each is its mirror.
-fn in_triangle(method: Linkage, n: usize, xs: &[f64], rows: &mut [usize]) -> Tried
+// The same rows from the cells above the diagonal, copied to the front of d, where each is its mirror.
+fn from_above(method: Linkage, n: usize, xs: &[f64], d: &mut [f64], rows: &mut [usize]) -> Tried
+    requires { ⌜ (n ≤ 64) × (length (now xs) ≡ n * n) × (2 * (n - 1) ≤ length (now rows)) × (met n n ≤ length (now d)) ⌝ }
+    ensures { λ r. ⌜ (r ≡ triedOf (mirrored n (now (xs .entry))) (pairsVisited method n (now (xs .entry))))
+        × (now (rows .exit) ≡ cond (mirrored n (now (xs .entry))) (over (mergeRows method n (now (xs .entry))) (now (rows .entry))) (now (rows .entry))) ⌝ }
+{
+    if !triangle::above(xs, n, d) {
+        return Tried::Lopsided;
+    }
+    let pairs = steps(method, Form::Triangle, n, xs, d, rows);
+    Tried::Made(pairs)
+}
+
+// In 496 places, which are enough for 32 assets: clearing more than is used takes its time.
+fn in_few(method: Linkage, n: usize, xs: &[f64], rows: &mut [usize]) -> Tried
+    requires { ⌜ (n ≤ 32) × (length (now xs) ≡ n * n) × (2 * (n - 1) ≤ length (now rows)) ⌝ }
+    ensures { λ r. ⌜ (r ≡ triedOf (mirrored n (now (xs .entry))) (pairsVisited method n (now (xs .entry))))
+        × (now (rows .exit) ≡ cond (mirrored n (now (xs .entry))) (over (mergeRows method n (now (xs .entry))) (now (rows .entry))) (now (rows .entry))) ⌝ }
+{
+    let mut d = [0.0; 496];
+    from_above(method, n, xs, &mut d, rows)
+}
+
+// In 2,016 places, which are enough for 64.
+fn in_many(method: Linkage, n: usize, xs: &[f64], rows: &mut [usize]) -> Tried
     requires { ⌜ (n ≤ 64) × (length (now xs) ≡ n * n) × (2 * (n - 1) ≤ length (now rows)) ⌝ }
     ensures { λ r. ⌜ (r ≡ triedOf (mirrored n (now (xs .entry))) (pairsVisited method n (now (xs .entry))))
         × (now (rows .exit) ≡ cond (mirrored n (now (xs .entry))) (over (mergeRows method n (now (xs .entry))) (now (rows .entry))) (now (rows .entry))) ⌝ }
 {
     let mut d = [0.0; 2016];
-    if !triangle::above(xs, n, &mut d) {
-        return Tried::Lopsided;
+    from_above(method, n, xs, &mut d, rows)
+}
+
+// Each array has a function of its own, so that they lie over each other in a call's frame.
+fn in_triangle(method: Linkage, n: usize, xs: &[f64], rows: &mut [usize]) -> Tried
+    requires { ⌜ (n ≤ 64) × (length (now xs) ≡ n * n) × (2 * (n - 1) ≤ length (now rows)) ⌝ }
+    ensures { λ r. ⌜ (r ≡ triedOf (mirrored n (now (xs .entry))) (pairsVisited method n (now (xs .entry))))
+        × (now (rows .exit) ≡ cond (mirrored n (now (xs .entry))) (over (mergeRows method n (now (xs .entry))) (now (rows .entry))) (now (rows .entry))) ⌝ }
+{
+    if n <= 32 {
+        return in_few(method, n, xs, rows);
     }
-    let pairs = steps(method, Form::Triangle, n, xs, &mut d, rows);
-    Tried::Made(pairs)
+    in_many(method, n, xs, rows)
 }
 
 // The merge rows of n assets over the front of rows. The answer is the pairs looked at.

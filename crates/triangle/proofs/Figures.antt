@@ -8,7 +8,7 @@ use lib.Ieee.{Float, binary64, ofFields, ofBits, toBits}
 use Rattle.lent.specs.Grid.{zeros}
 use Rattle.lent.specs.Range.{span, range}
 use Rattle.triangle.specs.declared.Form.the-variants.{Square, Triangle}
-use Rattle.triangle.specs.Triangle.{met, rowOf, placeOf, shiftAt, isMirror, mirrorRow, mirrored, isSquare, upperRow, upperOf}
+use Rattle.triangle.specs.Triangle.{met, rowOf, placeOf, shiftAt, isMirror, mirrorRow, mirrored, hasRoom, upperRow, upperOf}
 
 abbrev all : List Bool → Bool
 all [] = true
@@ -88,11 +88,6 @@ shifts =
     ∷ eqb (shiftAt Triangle 4 1) 2
     ∷ eqb (shiftAt Triangle 4 2) 3
     ∷ eqb (shiftAt Triangle 4 3) 3
-    -- past the last row, and of more than 64
-    ∷ eqb (shiftAt Square 4 4) 0
-    ∷ eqb (shiftAt Triangle 4 4) 0
-    ∷ eqb (shiftAt Square 65 1) 0
-    ∷ eqb (shiftAt Triangle 65 1) 0
     ∷ []
 
 -- 2 by 2, by its bits
@@ -124,11 +119,15 @@ copies =
     -- one entry to spare
     ∷ are (upperOf 3 (matrix (p0 ∷ one ∷ two ∷ no ∷ p0 ∷ m3 ∷ no ∷ no ∷ p0 ∷ [])) (zeros 4)) (one ∷ two ∷ m3 ∷ p0 ∷ [])
     ∷ are (upperOf 1 (matrix (one ∷ [])) (zeros 1)) (p0 ∷ [])
-    ∷ isSquare 3 (zeros 9)
-    ∷ not (isSquare 3 (zeros 8))
-    ∷ not (isSquare 65 (zeros 4225))
+    -- a matrix of another length, no room, one cell, which needs none, and more than 64
+    ∷ hasRoom 3 (zeros 9) (zeros 3)
+    ∷ not (hasRoom 3 (zeros 8) (zeros 3))
+    ∷ not (hasRoom 3 (zeros 9) (zeros 2))
+    ∷ hasRoom 1 (zeros 1) []
+    ∷ hasRoom 64 (zeros 4096) (zeros 2016)
+    ∷ not (hasRoom 65 (zeros 4225) (zeros 2080))
     ∷ []
 
 pub figures : all places && all shifts && all mirrors && all copies ≡ true
-unfolding met rowOf placeOf shiftAt isMirror mirrorRow mirrored isSquare upperRow upperOf range span ofFields ofBits toBits
+unfolding met rowOf placeOf shiftAt isMirror mirrorRow mirrored hasRoom upperRow upperOf range span ofFields ofBits toBits
 figures = refl

@@ -54,15 +54,22 @@ met-mono m i (suc j) h =
     (λ l. let r = met-mono m i j (le-of-suc-le-suc l) in let e = met-more m j in rw (← add-one j) (omega arith))
     (eq-or-lt-of-le h)
 
--- 2,016 places are enough
-pub met-room : (n : ℕ) → n ≤ 64 → met n n ≤ 2016
-met-room zero h = omega (arith, met-none 0)
-met-room (suc k) h =
-    let e = met-all (suc k) in
-    let z : suc k * suc k ≡ suc k * k + suc k = ap (λ (j : ℕ). suc k * j) (sym (add-one k)) ∙ mul-add (suc k) k 1 ∙ ap (λ (j : ℕ). suc k * k + j) (mul-one (suc k)) in
-    let j : k ≤ 63 = omega arith in
-    let l : suc k * k ≤ 64 * 63 = mul-le-mul h j in
+-- n(n − 1)/2 places, for n or fewer
+met-most : (n k : ℕ) → n ≤ k + 1 → 2 * met n n ≤ (k + 1) * k
+met-most zero k h = omega (arith, met-none 0)
+met-most (suc i) k h =
+    let e = met-all (suc i) in
+    let z : suc i * suc i ≡ suc i * i + suc i = ap (λ (j : ℕ). suc i * j) (sym (add-one i)) ∙ mul-add (suc i) i 1 ∙ ap (λ (j : ℕ). suc i * i + j) (mul-one (suc i)) in
+    let j : i ≤ k = omega arith in
+    let l : suc i * i ≤ (k + 1) * k = mul-le-mul h j in
     omega arith
+
+-- 2,016 are enough for 64, and 496 for 32
+pub met-room : (n : ℕ) → n ≤ 64 → met n n ≤ 2016
+met-room n h = let l = met-most n 63 h in omega arith
+
+pub met-few : (n : ℕ) → n ≤ 32 → met n n ≤ 496
+met-few n h = let l = met-most n 31 h in omega arith
 
 -- ---- rows and places
 
@@ -158,7 +165,7 @@ place-one Triangle n r c x i hr hc ne hx hi nf e =
 pub less-off : (a b : ℕ) → a < b → a ≡ b → ⊥
 less-off a b h q = lt-irrefl _ (subst (λ (z : ℕ). a < z) (sym q) h)
 
-pub triangle-room : (n : ℕ) → n ≤ 64 → roomOf Triangle n ≤ 2016
+triangle-room : (n : ℕ) → n ≤ 64 → roomOf Triangle n ≤ 2016
 unfolding roomOf
 triangle-room n h = met-room n h
 
@@ -181,10 +188,15 @@ cell-below n r c h hr hc = omega (arith, cell-lt n n r c hr hc, square-in n h)
 pub right-at : (form : Form) (n base a b : ℕ) → a < b → base ≡ rowOf form n a → base + (b - a - 1) ≡ placeOf form n a b
 right-at form n base a b h e = ap (λ (k : ℕ). k + (b - a - 1)) e ∙ sym (right-place form n a b h)
 
--- of the triangle's 2,016 places
-pub write-in : (n base a b : ℕ) → n ≤ 64 → a < b → b < n → base ≡ rowOf Triangle n a → base + (b - a - 1) < 2016
-write-in n base a b h l k e =
+-- how many cells are above the diagonal, as the code counts them
+pub room-code : (n : ℕ) → (n * n - n) / 2 ≡ met n n
+room-code n = let e = met-all n in omega arith
+
+-- within the room of a triangle, and small
+pub write-in : (n base a b room : ℕ) → n ≤ 64 → a < b → b < n → met n n ≤ room → base ≡ rowOf Triangle n a → (base + (b - a - 1) < room) × (base + (b - a - 1) < 2016)
+unfolding roomOf
+write-in n base a b room h l k fit e =
     let q = right-at Triangle n base a b l e in
     let p = place-in Triangle n a b (omega arith) k (less-off a b l) in
-    let m = triangle-room n h in
-    omega arith
+    let m = met-room n h in
+    (omega arith, omega arith)

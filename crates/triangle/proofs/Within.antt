@@ -6,7 +6,9 @@ use mathlib.Core.List.{List}
 use native.Mathlib.Nat.{lt-of-lt-of-le}
 use native.Mathlib.Numerals.{add-one}
 use native.Mathlib.Omega.{arith}
-use borrow.Author.Tests.{le-leb, lt-ltb}
+use mathlib.Core.Bool.{cond}
+use borrow.Author.Tests.{le-leb}
+use lib.Dec.{leb}
 use lib.ListN.{length, getD, replicate, length-set, length-replicate}
 use lib.Seq.{getD-set-same, getD-set-other}
 use Rattle.lent.specs.Range.{range}
@@ -25,37 +27,41 @@ met-own : (n r : ℕ) → r < n → r ≤ met n r
 met-own n zero h = omega arith
 met-own n (suc r) h = let e = met-more n r in let p = met-own n r (omega arith) in rw (← add-one r) (omega arith)
 
-pub row-least : (form : Form) (n r : ℕ) → r < n → r ≤ rowOf form n r
+row-least : (form : Form) (n r : ℕ) → r < n → r ≤ rowOf form n r
 unfolding rowOf
 row-least Square n r h = omega arith
 row-least Triangle n r h = met-own n r h
+
+-- so that r can be taken off
+pub row-enough : (form : Form) (n r k : ℕ) → k ≡ rowOf form n r → r < n → r ≤ k
+row-enough form n r k e h = rw e (row-least form n r h)
 
 row-in : (form : Form) (n r : ℕ) → r < n → rowOf form n r ≤ roomOf form n
 unfolding rowOf roomOf
 row-in Square n r h = omega (arith, cell-lt n n r r h h)
 row-in Triangle n r h = met-mono n r n (omega arith)
 
-shift-is : (form : Form) (n r : ℕ) → n ≤ 64 → r < n → shiftAt form n r + r ≡ rowOf form n r
+shift-is : (form : Form) (n r : ℕ) → r < n → shiftAt form n r + r ≡ rowOf form n r
 unfolding shiftAt
-shift-is form n r h hr = rw (le-leb n 64 h, lt-ltb r n hr) (omega (arith, row-least form n r hr))
+shift-is form n r h = omega (arith, row-least form n r h)
 
 -- ---- places by the table
 
 -- right of the diagonal
-pub place-right : (form : Form) (n r c k : ℕ) (shifts : List ℕ) → n ≤ 64 → r < c → c < n → Lined form n shifts → k ≡ getD shifts r 0 → k + (c - 1) ≡ placeOf form n r c
-place-right form n r c k shifts h l hc lined e =
+pub place-right : (form : Form) (n r c k : ℕ) (shifts : List ℕ) → r < c → c < n → Lined form n shifts → k ≡ getD shifts r 0 → k + (c - 1) ≡ placeOf form n r c
+place-right form n r c k shifts l hc lined e =
     let hr : r < n = omega arith in
     let p : k ≡ shiftAt form n r = e ∙ lined r hr in
-    omega (arith, shift-is form n r h hr, right-place form n r c l)
+    omega (arith, shift-is form n r hr, right-place form n r c l)
 
 -- left of it, in the triangle
-pub place-left : (n r c k : ℕ) (shifts : List ℕ) → n ≤ 64 → c < r → r < n → Lined Triangle n shifts → k ≡ getD shifts c 0 → k + (r - 1) ≡ placeOf Triangle n r c
-place-left n r c k shifts h l hr lined e =
-    place-right Triangle n c r k shifts h l hr lined e ∙ mirror-place n c r (less-off c r l)
+pub place-left : (n r c k : ℕ) (shifts : List ℕ) → c < r → r < n → Lined Triangle n shifts → k ≡ getD shifts c 0 → k + (r - 1) ≡ placeOf Triangle n r c
+place-left n r c k shifts l hr lined e =
+    place-right Triangle n c r k shifts l hr lined e ∙ mirror-place n c r (less-off c r l)
 
 -- a shift is within the room
-pub shift-in : (form : Form) (n r : ℕ) (shifts : List ℕ) (room : ℕ) → n ≤ 64 → r < n → Lined form n shifts → roomOf form n ≤ room → getD shifts r 0 ≤ room
-shift-in form n r shifts room h hr lined fit = omega (arith, lined r hr, shift-is form n r h hr, row-in form n r hr)
+pub shift-in : (form : Form) (n r : ℕ) (shifts : List ℕ) (room : ℕ) → r < n → Lined form n shifts → roomOf form n ≤ room → getD shifts r 0 ≤ room
+shift-in form n r shifts room hr lined fit = omega (arith, lined r hr, shift-is form n r hr, row-in form n r hr)
 
 -- a place is within the room
 pub within : (form : Form) (n r c room k : ℕ) → n ≤ 64 → r < n → c < n → (r ≡ c → ⊥) → roomOf form n ≤ room → k ≡ placeOf form n r c → (k < room) × (k < 4096)
@@ -81,11 +87,11 @@ module _ (form : Form) (n r : ℕ) (h : r < 64) where
       (λ q. getD-set-other t i r (shiftAt form n i) 0 q ∙ p (sym (length-set t i (shiftAt form n i)) ∙ e))
       (same-or-not r i)
 
-pub shifted-lined : (form : Form) (n : ℕ) (shifts l : List ℕ) → n ≤ 64 → l ≡ replicate 64 0 → shifts ≡ range (shifted form n) 0 64 l → Lined form n shifts
+pub shifted-lined : (form : Form) (n : ℕ) (shifts l : List ℕ) → n ≤ 64 → l ≡ replicate 64 0 → shifts ≡ cond (leb n 64) (range (shifted form n) 0 n l) l → Lined form n shifts
 unfolding shifted
 shifted-lined form n shifts l h e made r hr =
     let hs : r < 64 = omega arith in
-    let long : length (range (shifted form n) 0 64 l) ≡ 64 =
-    range-keeps (λ t. length t ≡ 64) (shifted form n) 0 64 l (rw e (length-replicate {A = ℕ} 64 0))
+    let long : length (range (shifted form n) 0 n l) ≡ 64 =
+    range-keeps (λ t. length t ≡ 64) (shifted form n) 0 n l (rw e (length-replicate {A = ℕ} 64 0))
     (λ i t a b p. length-set t i (shiftAt form n i) ∙ p) in
-    rw made (range-hits (There form n r hs) (shifted form n) 0 64 l r zero-le hs (put-here form n r hs) (λ i t a b p. put-there form n r hs i t p) long)
+    rw (made, le-leb n 64 h) (range-hits (There form n r hs) (shifted form n) 0 n l r zero-le hr (put-here form n r hs) (λ i t a b p. put-there form n r hs i t p) long)

@@ -134,7 +134,7 @@ module _ (n : ℕ) (xs : List Float) (r c : ℕ) (h : r < c) (hc : c < n) where
   unfolding upperOf
   upper-at d = range-hits There (upperRow n xs) 0 n d r zero-le (omega arith) row-here (λ x t a b q. row-there x t q)
 
-pub upper-length : (n : ℕ) (xs d : List Float) → length (upperOf n xs d) ≡ length d
+upper-length : (n : ℕ) (xs d : List Float) → length (upperOf n xs d) ≡ length d
 unfolding upperOf upperRow
 upper-length n xs d =
     range-keeps (λ t. length t ≡ length d) (upperRow n xs) 0 n d refl

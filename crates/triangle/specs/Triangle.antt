@@ -28,10 +28,10 @@ unfolding met
 placeOf Square n r c = r * n + c
 placeOf Triangle n r c = cond (ltb r c) (met n r + (c - r - 1)) (met n c + (r - c - 1))
 
--- so right of the diagonal cell (r, c) stands at shiftAt r + (c − 1), in both forms; of each row of at most 64, and 0 past them
+-- so right of the diagonal cell (r, c) stands at shiftAt r + (c − 1), in both forms
 unfoldable pub shiftAt : Form → ℕ → ℕ → ℕ
 unfolding rowOf
-shiftAt form n r = cond (leb n 64 && ltb r n) (rowOf form n r - r) 0
+shiftAt form n r = rowOf form n r - r
 
 unfoldable pub shifted : Form → ℕ → ℕ → List ℕ → List ℕ
 unfolding shiftAt
@@ -53,9 +53,10 @@ mirrored n xs = range (mirrorRow n xs) 0 n true
 
 -- ---- "row by row above the diagonal"
 
--- an n by n matrix of at most 64
-unfoldable pub isSquare : ℕ → List Float → Bool
-isSquare n xs = leb n 64 && eqb (length xs) (n * n)
+-- an n by n matrix of at most 64, and room for the cells above its diagonal
+unfoldable pub hasRoom : ℕ → List Float → List Float → Bool
+unfolding met
+hasRoom n xs d = leb n 64 && eqb (length xs) (n * n) && leb (met n n) (length d)
 
 unfoldable pub upperRow : ℕ → List Float → ℕ → List Float → List Float
 unfolding placeOf

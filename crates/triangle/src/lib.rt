@@ -3,12 +3,12 @@
 ghost use mathlib.Core.Bool.{_&&_, cond};
 ghost use mathlib.Core.Path.{_≡_};
 ghost use Prim.Native.Nat.{_*_, _<_, _≤_};
-ghost use lib.Dec.{eqb};
+ghost use lib.Dec.{eqb, leb};
 ghost use lib.ListN.{length};
 ghost use lib.Ieee.{binary64, toBits};
 ghost use Rattle.lent.specs.Grid.{cell};
 ghost use Rattle.lent.specs.Range.{range};
-ghost use Rattle.triangle.specs.Triangle.{rowOf, shiftAt, shifted, mirrorRow, mirrored, isSquare, upperRow, upperOf};
+ghost use Rattle.triangle.specs.Triangle.{met, rowOf, shifted, mirrorRow, mirrored, hasRoom, upperRow, upperOf};
 
 // How the distances are held. A triangle has one place for a cell and its mirror.
 pub enum Form {
@@ -27,24 +27,15 @@ fn row_start(form: Form, n: usize, r: usize) -> usize
     }
 }
 
-fn shift(form: Form, n: usize, r: usize) -> usize
-    ensures { λ k. ⌜ k ≡ shiftAt form n r ⌝ }
+// Of each row of n, by how much its cells right of the diagonal stand shifted: that of column c is at c - 1 and so much more. What is behind the rows stays, and all where there are more than 64.
+pub fn shifts(form: Form, n: usize, out: &mut [usize; 64])
+    ensures { λ _. ⌜ now (out .exit) ≡ cond (leb n 64) (range (shifted form n) 0 n (now (out .entry))) (now (out .entry)) ⌝ }
 {
     if n > 64 {
-        return 0;
+        return;
     }
-    if n <= r {
-        return 0;
-    }
-    row_start(form, n, r) - r
-}
-
-// Of each row of n, by how much its cells right of the diagonal stand shifted: that of column c is at c - 1 and so much more. 0 past the last row, and of more than 64.
-pub fn shifts(form: Form, n: usize, out: &mut [usize; 64])
-    ensures { λ _. ⌜ now (out .exit) ≡ range (shifted form n) 0 64 (now (out .entry)) ⌝ }
-{
-    for r in 0..64 {
-        out[r] = shift(form, n, r);
+    for r in 0..n {
+        out[r] = row_start(form, n, r) - r;
     }
 }
 
@@ -66,8 +57,8 @@ fn agrees(before: bool, x: f64, y: f64) -> bool
 }
 
 // Row r above the diagonal, copied, and each of its cells held to its mirror.
-fn fill_row(xs: &[f64], d: &mut [f64; 2016], n: usize, r: usize, before: bool) -> bool
-    requires { ⌜ (n ≤ 64) × (r < n) × (length (now xs) ≡ n * n) ⌝ }
+fn fill_row(xs: &[f64], d: &mut [f64], n: usize, r: usize, before: bool) -> bool
+    requires { ⌜ (n ≤ 64) × (r < n) × (length (now xs) ≡ n * n) × (met n n ≤ length (now d)) ⌝ }
     ensures { λ z. ⌜ (z ≡ mirrorRow n (now (xs .entry)) r before) × (now (d .exit) ≡ upperRow n (now (xs .entry)) r (now (d .entry))) ⌝ }
 {
     let base = row_start(Form::Triangle, n, r);
@@ -80,15 +71,18 @@ fn fill_row(xs: &[f64], d: &mut [f64; 2016], n: usize, r: usize, before: bool) -
     same
 }
 
-// The cells of an n by n matrix above the diagonal, copied row by row to the front of d. The answer is whether each cell is its mirror, and no where there is no such matrix of at most 64.
-pub fn above(xs: &[f64], n: usize, d: &mut [f64; 2016]) -> bool
-    ensures { λ z. ⌜ z ≡ (isSquare n (now (xs .entry)) && mirrored n (now (xs .entry))) ⌝ }
-    ensures { λ z. ⌜ now (d .exit) ≡ cond (isSquare n (now (xs .entry))) (upperOf n (now (xs .entry)) (now (d .entry))) (now (d .entry)) ⌝ }
+// The cells of an n by n matrix above the diagonal, copied row by row to the front of d. The answer is whether each cell is its mirror, and no where there is no such matrix of at most 64, or no room.
+pub fn above(xs: &[f64], n: usize, d: &mut [f64]) -> bool
+    ensures { λ z. ⌜ z ≡ (hasRoom n (now (xs .entry)) (now (d .entry)) && mirrored n (now (xs .entry))) ⌝ }
+    ensures { λ z. ⌜ now (d .exit) ≡ cond (hasRoom n (now (xs .entry)) (now (d .entry))) (upperOf n (now (xs .entry)) (now (d .entry))) (now (d .entry)) ⌝ }
 {
     if n > 64 {
         return false;
     }
     if xs.len() != n * n {
+        return false;
+    }
+    if d.len() < (n * n - n) / 2 {
         return false;
     }
     let mut same = true;

@@ -13,24 +13,24 @@ use Rattle.linkage.proofs.move_all.Statement.{statement}
 use Rattle.linkage.proofs.move_all.Tie as tie
 
 abbrev Inv-loop : tie.InvT-loop
-Inv-loop method form shifts n d₀ sizes slots m x y d-xy j₀ d j = (j ≤ m) × (d ≡ range (drawnAt method form n sizes slots (x .0) (y .0) d-xy) 0 j d₀) × (length d ≡ length d₀)
+Inv-loop method form shifts n d₀ sizes slots m pair j₀ d j = (j ≤ m) × (d ≡ range (drawnAt method form n sizes slots (pair .x .0) (pair .y .0) (pair .dxy)) 0 j d₀) × (length d ≡ length d₀)
 
 abbrev μ-loop : tie.MeasureT-loop
-μ-loop method form shifts n d₀ sizes slots m x y d-xy j₀ d j = m - j
+μ-loop method form shifts n d₀ sizes slots m pair j₀ d j = m - j
 
 loop-holds : tie.Need-loop-holds Inv-loop μ-loop
 loop-holds c = (search needs, sym (range-none _ _ _ _ (search needs)), refl)
 
-mul-t17 : tie.Need-mul-t17 Inv-loop μ-loop
-mul-t17 c = omega arith
+mul-t15 : tie.Need-mul-t15 Inv-loop μ-loop
+mul-t15 c = omega arith
 
-element-copy-out-t20 : tie.Need-element-copy-out-t20 Inv-loop μ-loop
-element-copy-out-t20 c = omega arith
+element-copy-out-t18 : tie.Need-element-copy-out-t18 Inv-loop μ-loop
+element-copy-out-t18 c = omega arith
 
 move-one-requires : tie.Need-move-one-requires Inv-loop μ-loop
 move-one-requires c κs =
     let s = c .before .before .before .before .before in
-    (s .pre .0, s .pre .2, s .pre .3, s .pre .4 (c .before .before .before .loop .j) (omega arith), s .pre .5, omega (arith, s .pre .6, c .before .before .before .loop .inv .2))
+    (s .pre .0, s .pre .2 (c .before .before .before .loop .j) (omega arith), s .pre .3, omega (arith, s .pre .4, c .before .before .before .loop .inv .2), s .pre .5)
 
 add-j : tie.Need-add-j Inv-loop μ-loop
 add-j c = omega arith
@@ -42,10 +42,10 @@ loop-again : tie.Need-loop-again Inv-loop μ-loop
 unfolding drawnAt
 loop-again c =
     let g = c .before .before .before .before .before .before .before .before .args in
-    let f = drawnAt (g .method) (g .form) (g .n) (now (g .sizes)) (now (g .slots)) (g .x .0) (g .y .0) (g .d-xy) in (
+    let f = drawnAt (g .method) (g .form) (g .n) (now (g .sizes)) (now (g .slots)) (g .pair .x .0) (g .pair .y .0) (g .pair .dxy) in (
       omega arith,
       c .before .before .move-one .ensures ∙ ap (f (c .before .before .before .before .before .before .loop .j)) (c .before .before .before .before .before .before .loop .inv .1) ∙ sym (range-more f 0 (c .before .before .before .before .before .before .loop .j) (now (g .d)) (search needs)),
-      ap length (c .before .before .move-one .ensures) ∙ length-drawn (g .method) (g .form) (g .n) (now (g .sizes)) (g .x .0) (g .y .0) (g .d-xy) (getD (now (g .slots)) (c .before .before .before .before .before .before .loop .j) 0) (c .before .before .before .before .before .before .loop .d) ∙ c .before .before .before .before .before .before .loop .inv .2,
+      ap length (c .before .before .move-one .ensures) ∙ length-drawn (g .method) (g .form) (g .n) (now (g .sizes)) (g .pair .x .0) (g .pair .y .0) (g .pair .dxy) (getD (now (g .slots)) (c .before .before .before .before .before .before .loop .j) 0) (c .before .before .before .before .before .before .loop .d) ∙ c .before .before .before .before .before .before .loop .inv .2,
     )
 
 same-length : tie.Need-same-length Inv-loop μ-loop
@@ -61,8 +61,8 @@ move-all-spec =
     Inv-loop
     μ-loop
     loop-holds
-    mul-t17
-    element-copy-out-t20
+    mul-t15
+    element-copy-out-t18
     move-one-requires
     add-j
     loop-less

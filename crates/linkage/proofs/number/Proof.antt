@@ -11,10 +11,10 @@ use Rattle.linkage.proofs.number.Statement.{statement}
 use Rattle.linkage.proofs.number.Tie as tie
 
 abbrev Inv-loop : tie.InvT-loop
-Inv-loop ids₀ k₀ ids k = (k ≤ 64) × (ids ≡ range numbered 0 k ids₀)
+Inv-loop ids₀ n k₀ ids k = (k ≤ n) × (ids ≡ range numbered 0 k ids₀)
 
 abbrev μ-loop : tie.MeasureT-loop
-μ-loop ids₀ k₀ ids k = 64 - k
+μ-loop ids₀ n k₀ ids k = n - k
 
 loop-holds : tie.Need-loop-holds Inv-loop μ-loop
 loop-holds c = (search needs, sym (range-none _ _ _ _ (search needs)))

@@ -39,7 +39,7 @@ sub-result c = search needs
 add-result-2 : tie.Need-add-result-2
 add-result-2 c =
     let s = c .before .before .before .before in
-    omega (arith, place-right (s .args .form) (s .args .n) (s .args .r) (s .args .c) _ (now (s .args .shifts)) (s .pre .0) (c .before .if1 .taken) (s .pre .2) (s .pre .4) refl, place-small (s .args .form) (s .args .n) (s .args .r) (s .args .c) (s .pre .0) (s .pre .1) (s .pre .2) (s .pre .3))
+    omega (arith, place-right (s .args .form) (s .args .n) (s .args .r) (s .args .c) _ (now (s .args .shifts)) (c .before .if1 .taken) (s .pre .2) (s .pre .4) refl, place-small (s .args .form) (s .args .n) (s .args .r) (s .args .c) (s .pre .0) (s .pre .1) (s .pre .2) (s .pre .3))
 
 mul-result-3 : tie.Need-mul-result-3
 mul-result-3 c = let s = c .before .before .before in omega (arith, s .pre .0, s .pre .2)
@@ -55,17 +55,17 @@ sub-result-2 c =
 add-result-3 : tie.Need-add-result-3
 add-result-3 c =
     let s = c .before .before .before .before in
-    omega (arith, below-place (s .args .form) (s .args .n) (s .args .r) (s .args .c) _ (now (s .args .shifts)) (c .before .before .enum-told2 .given .1) (s .pre .0) (c .before .if1 .left) (s .pre .3) (s .pre .1) (s .pre .4) refl, place-small (s .args .form) (s .args .n) (s .args .r) (s .args .c) (s .pre .0) (s .pre .1) (s .pre .2) (s .pre .3))
+    omega (arith, below-place (s .args .form) (s .args .n) (s .args .r) (s .args .c) _ (now (s .args .shifts)) (c .before .before .enum-told2 .given .1) (c .before .if1 .left) (s .pre .3) (s .pre .1) (s .pre .4) refl, place-small (s .args .form) (s .args .n) (s .args .r) (s .args .c) (s .pre .0) (s .pre .1) (s .pre .2) (s .pre .3))
 
 returns : tie.Need-returns
 unfolding placeOf
 returns c = rw (c .enum-told .given .1) refl
 
 returns-2 : tie.Need-returns-2
-returns-2 c = let s = c .before .before .before .before in place-right (s .args .form) (s .args .n) (s .args .r) (s .args .c) _ (now (s .args .shifts)) (s .pre .0) (c .before .if1 .taken) (s .pre .2) (s .pre .4) refl
+returns-2 c = let s = c .before .before .before .before in place-right (s .args .form) (s .args .n) (s .args .r) (s .args .c) _ (now (s .args .shifts)) (c .before .if1 .taken) (s .pre .2) (s .pre .4) refl
 
 returns-3 : tie.Need-returns-3
-returns-3 c = let s = c .before .before .before .before in below-place (s .args .form) (s .args .n) (s .args .r) (s .args .c) _ (now (s .args .shifts)) (c .before .before .enum-told2 .given .1) (s .pre .0) (c .before .if1 .left) (s .pre .3) (s .pre .1) (s .pre .4) refl
+returns-3 c = let s = c .before .before .before .before in below-place (s .args .form) (s .args .n) (s .args .r) (s .args .c) _ (now (s .args .shifts)) (c .before .before .enum-told2 .given .1) (c .before .if1 .left) (s .pre .3) (s .pre .1) (s .pre .4) refl
 
 pub place-spec : {M : Type 1} → statement M
 place-spec =

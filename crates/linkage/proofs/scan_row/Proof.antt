@@ -40,16 +40,16 @@ element-copy-out-shift-2 : tie.Need-element-copy-out-shift-2 Inv-loop μ-loop
 element-copy-out-shift-2 c = let s = c .before .before .before in omega (arith, s .pre .5 (s .args .i) (s .pre .3))
 
 mul-row : tie.Need-mul-row Inv-loop μ-loop
-mul-row c = let s = c .before .before .before .before in omega (arith, shift-in (s .args .form) (s .args .n) (getD (now (s .args .slots)) (s .args .i) 0) (now (s .args .shifts)) (length (now (s .args .d))) (s .pre .0) (s .pre .5 (s .args .i) (s .pre .3)) (s .pre .7) (s .pre .8), s .good)
+mul-row c = let s = c .before .before .before .before in omega (arith, shift-in (s .args .form) (s .args .n) (getD (now (s .args .slots)) (s .args .i) 0) (now (s .args .shifts)) (length (now (s .args .d))) (s .pre .5 (s .args .i) (s .pre .3)) (s .pre .7) (s .pre .8), s .good)
 
 sub-row : tie.Need-sub-row Inv-loop μ-loop
-sub-row c = let s = c .before .before .before .before in omega (arith, shift-in (s .args .form) (s .args .n) (getD (now (s .args .slots)) (s .args .i) 0) (now (s .args .shifts)) (length (now (s .args .d))) (s .pre .0) (s .pre .5 (s .args .i) (s .pre .3)) (s .pre .7) (s .pre .8))
+sub-row c = let s = c .before .before .before .before in omega (arith, shift-in (s .args .form) (s .args .n) (getD (now (s .args .slots)) (s .args .i) 0) (now (s .args .shifts)) (length (now (s .args .d))) (s .pre .5 (s .args .i) (s .pre .3)) (s .pre .7) (s .pre .8))
 
 part-row-start : tie.Need-part-row-start Inv-loop μ-loop
-part-row-start c = let s = c .before .before .before .before in omega (arith, shift-in (s .args .form) (s .args .n) (getD (now (s .args .slots)) (s .args .i) 0) (now (s .args .shifts)) (length (now (s .args .d))) (s .pre .0) (s .pre .5 (s .args .i) (s .pre .3)) (s .pre .7) (s .pre .8))
+part-row-start c = let s = c .before .before .before .before in omega (arith, shift-in (s .args .form) (s .args .n) (getD (now (s .args .slots)) (s .args .i) 0) (now (s .args .shifts)) (length (now (s .args .d))) (s .pre .5 (s .args .i) (s .pre .3)) (s .pre .7) (s .pre .8))
 
 part-row-end : tie.Need-part-row-end Inv-loop μ-loop
-part-row-end c = let s = c .before .before .before .before in omega (arith, shift-in (s .args .form) (s .args .n) (getD (now (s .args .slots)) (s .args .i) 0) (now (s .args .shifts)) (length (now (s .args .d))) (s .pre .0) (s .pre .5 (s .args .i) (s .pre .3)) (s .pre .7) (s .pre .8))
+part-row-end c = let s = c .before .before .before .before in omega (arith, shift-in (s .args .form) (s .args .n) (getD (now (s .args .slots)) (s .args .i) 0) (now (s .args .shifts)) (length (now (s .args .d))) (s .pre .5 (s .args .i) (s .pre .3)) (s .pre .7) (s .pre .8))
 
 next-near-requires : tie.Need-next-near-requires Inv-loop μ-loop
 next-near-requires c κs =

@@ -1,7 +1,7 @@
 -- `linkage::step_once` meets its contract. Assumes nothing.
 use native.Mathlib.Omega.{arith}
 use Prim.Native.Nat.{_*_}
-use mathlib.Core.Path.{sym, subst, _∙_}
+use mathlib.Core.Path.{refl, sym, subst, _∙_}
 use denote.Ref.{now}
 use lib.ListN.{take}
 use Rattle.triangle.specs.Inner.{heldAt}
@@ -24,38 +24,38 @@ scan-all-requires c κs =
     let s = c .before .before .before .before .before in
     (s .pre .0, s .pre .2, s .pre .3, s .pre .4, s .pre .5, s .pre .8, s .pre .9)
 
-move-all-requires : tie.Need-move-all-requires
-move-all-requires c κs =
-    let i = slots (c .before .before .before .before .before .before) in
-    let s = c .before .before .before .before .before .before .before .before .before .before .before .before in
-    (s .pre .0, s .pre .3, i .0, i .1, s .pre .4, s .pre .8, s .pre .9)
-
-add-ids : tie.Need-add-ids
-add-ids c = search needs
-
-mul-ids : tie.Need-mul-ids
-mul-ids c = omega (arith, slots (c .before .before .before .before .before .before .before .before .before), c .before .before .before .before .before .before .before .before .before .before .before .before .before .before .before .pre .0)
-
-element-write-ids : tie.Need-element-write-ids
-element-write-ids c = omega (arith, slots (c .before .before .before .before .before .before .before .before .before), c .before .before .before .before .before .before .before .before .before .before .before .before .before .before .before .pre .0)
-
 mul-sizes : tie.Need-mul-sizes
-mul-sizes c = omega (arith, slots (c .before .before .before .before .before .before .before .before .before), c .before .before .before .before .before .before .before .before .before .before .before .before .before .before .before .pre .0)
+mul-sizes c = omega (arith, slots (c .before .before .before), c .before .before .before .before .before .before .before .before .before .pre .0)
 
 element-copy-out-sizes : tie.Need-element-copy-out-sizes
-element-copy-out-sizes c = omega (arith, slots (c .before .before .before .before .before .before .before .before .before), c .before .before .before .before .before .before .before .before .before .before .before .before .before .before .before .pre .0)
+element-copy-out-sizes c = omega (arith, slots (c .before .before .before), c .before .before .before .before .before .before .before .before .before .pre .0)
+
+mul-t28 : tie.Need-mul-t28
+mul-t28 c = omega (arith, slots (c .before .before .before .before), c .before .before .before .before .before .before .before .before .before .before .pre .0)
+
+element-copy-out-t31 : tie.Need-element-copy-out-t31
+element-copy-out-t31 c = omega (arith, slots (c .before .before .before .before), c .before .before .before .before .before .before .before .before .before .before .pre .0)
+
+move-all-requires : tie.Need-move-all-requires
+move-all-requires c κs =
+    let i = slots (c .before .before .before .before .before .before .before .before) in
+    let s = c .before .before .before .before .before .before .before .before .before .before .before .before .before .before in
+    (s .pre .0, s .pre .3, s .pre .4, s .pre .8, s .pre .9, record { first = i .0; second = i .1; of-first = refl; of-second = refl })
+
+add-t24 : tie.Need-add-t24
+add-t24 c = search needs
+
+mul-ids : tie.Need-mul-ids
+mul-ids c = omega (arith, slots (c .before .before .before .before .before .before .before .before .before .before .before), c .before .before .before .before .before .before .before .before .before .before .before .before .before .before .before .before .before .pre .0)
+
+element-write-ids : tie.Need-element-write-ids
+element-write-ids c = omega (arith, slots (c .before .before .before .before .before .before .before .before .before .before .before), c .before .before .before .before .before .before .before .before .before .before .before .before .before .before .before .before .before .pre .0)
 
 mul-sizes-2 : tie.Need-mul-sizes-2
-mul-sizes-2 c = omega (arith, slots (c .before .before .before .before .before .before .before .before .before .before), c .before .before .before .before .before .before .before .before .before .before .before .before .before .before .before .before .pre .0)
-
-element-copy-out-sizes-2 : tie.Need-element-copy-out-sizes-2
-element-copy-out-sizes-2 c = omega (arith, slots (c .before .before .before .before .before .before .before .before .before .before), c .before .before .before .before .before .before .before .before .before .before .before .before .before .before .before .before .pre .0)
-
-mul-sizes-3 : tie.Need-mul-sizes-3
-mul-sizes-3 c = omega (arith, slots (c .before .before .before .before .before .before .before .before .before .before .before), c .before .before .before .before .before .before .before .before .before .before .before .before .before .before .before .before .before .pre .0)
+mul-sizes-2 c = omega (arith, slots (c .before .before .before .before .before .before .before .before .before .before .before .before), c .before .before .before .before .before .before .before .before .before .before .before .before .before .before .before .before .before .before .pre .0)
 
 element-write-sizes : tie.Need-element-write-sizes
-element-write-sizes c = omega (arith, slots (c .before .before .before .before .before .before .before .before .before .before .before), c .before .before .before .before .before .before .before .before .before .before .before .before .before .before .before .before .before .pre .0)
+element-write-sizes c = omega (arith, slots (c .before .before .before .before .before .before .before .before .before .before .before .before), c .before .before .before .before .before .before .before .before .before .before .before .before .before .before .before .before .before .before .pre .0)
 
 close-gap-requires : tie.Need-close-gap-requires
 close-gap-requires c κs = search needs
@@ -71,14 +71,16 @@ same-length-2 c = search needs
 
 returns : tie.Need-returns
 returns c =
-    let s = c .before .before .before .before .before .before .before .before .before .before .before .before .before .before .before .before .before .before .before .before .before .before .before in
-    let g = s .args in (
+    let s = c .before .before .before .before .before .before .before .before .before .before .before .before .before .before .before .before .before .before .before .before .before .before .before .before in
+    let g = s .args in
+    let scanned = c .before .before .before .before .before .before .before .before .before .before .before .before .before .before .before .before .before .before .scan-all in
+    let closed = c .before .before .before .before .close-gap in (
       (λ cells live held flags e.
-          stepped (g .method) (g .form) (g .n) (g .k) (g .m) (now (g .d)) cells (now (g .ids)) (now (g .slots)) (now (g .sizes)) (take (2 * g .k) (now (g .rows))) live (c .before .before .before .before .before .before .before .before .before .before .before .before .before .before .before .before .before .scan-all .result .best) _ (c .before .before .before .before .close-gap .last .0) _
-          (s .pre .2) (s .pre .3) (s .pre .6) held flags e (c .before .before .before .before .before .before .before .before .before .before .before .before .before .before .before .before .before .scan-all .ensures .0) (c .before .before .before .before .before .before .before .before .before .before .move-all .ensures) (c .before .before .before .before .close-gap .ensures) (c .before .before .put-row .ensures .0)),
+          stepped (g .method) (g .form) (g .n) (g .k) (g .m) (now (g .d)) cells (now (g .ids)) (now (g .slots)) (now (g .sizes)) (take (2 * g .k) (now (g .rows))) live (scanned .result .best) _ (closed .last .0) _
+          (s .pre .2) (s .pre .3) (s .pre .6) held flags e (scanned .ensures .0) (c .before .before .before .before .before .before .before .before .before .move-all .ensures) (closed .ensures) (c .before .before .put-row .ensures .0)),
       c .before .before .put-row .ensures .1,
-      c .before .before .before .before .close-gap .kept .0 ∙ s .pre .6,
-      c .before .before .before .before .before .before .before .before .before .before .before .before .before .before .before .before .before .scan-all .ensures .1,
+      closed .kept .0 ∙ s .pre .6,
+      scanned .ensures .1,
     )
 
 pub step-once-spec : {M : Type 1} → statement M
@@ -86,15 +88,15 @@ step-once-spec =
     tie.close
     (tie.spec
     scan-all-requires
-    move-all-requires
-    add-ids
-    mul-ids
-    element-write-ids
     mul-sizes
     element-copy-out-sizes
+    mul-t28
+    element-copy-out-t31
+    move-all-requires
+    add-t24
+    mul-ids
+    element-write-ids
     mul-sizes-2
-    element-copy-out-sizes-2
-    mul-sizes-3
     element-write-sizes
     close-gap-requires
     put-row-requires

@@ -5,11 +5,9 @@ use Prim.Native.Nat.{ℕ, _+_, _-_, _*_, _≤_}
 use mathlib.Core.Path.{_≡_, refl, sym, ap, subst, _∙_}
 use denote.Ref.{now}
 use lib.ListN.{length, take, drop}
-use Rattle.lent.specs.Range.{range}
 use Rattle.triangle.proofs.Places.{met-least}
 use Rattle.triangle.proofs.Within.{shifted-lined}
 use Rattle.linkage.specs.Merge.{stateAt, mergeRows}
-use Rattle.linkage.specs.Inner.{numbered}
 use Rattle.linkage.specs.Pairs.{pairsAt, pairsVisited}
 use Rattle.linkage.proofs.Laws.{drop-more}
 use Rattle.linkage.proofs.Front.{numbered-at}
@@ -46,7 +44,7 @@ loop-holds c =
     let e = c .before .before .before .number2 .ensures in (
       search needs,
       refl,
-      ap length e ∙ numbered-at 64 (omega arith) .0,
+      ap length e ∙ numbered-at (g .n) (s .pre .0) .0,
       shown-start (g .method) (g .form) (g .n) (now (g .xs)) _ _ _ _ (now (g .rows)) (s .pre .0) (s .pre .1) (c .before .before .before .before .before .number .ensures) e refl,
       refl,
       sym (pairs-none (g .method) (g .n) (now (g .xs))),

@@ -2,12 +2,12 @@
 use borrow.Author.Needs.{needs}
 use native.Mathlib.Omega.{arith}
 use Prim.Native.Nat.{ℕ, _+_, _-_, _≤_, _<_}
-use mathlib.Core.Path.{_≡_, sym, ap, _∙_}
+use mathlib.Core.Path.{_≡_, refl, sym, ap, _∙_}
 use mathlib.Core.Bool.{Bool, _&&_}
 use mathlib.Core.List.{List}
 use denote.Ref.{now}
 use lib.Dec.{eqb}
-use lib.ListN.{set}
+use lib.ListN.{length, set, length-set}
 use lib.Ieee.{Float, binary64, toBits}
 use Rattle.lent.specs.Grid.{cell}
 use Rattle.lent.specs.Range.{range}
@@ -24,16 +24,19 @@ Inv-loop xs d₀ n r before base same₀ c₀ d same c =
     × (c ≤ n)
     × (same ≡ range (λ i b. b && isMirror xs n r i) (r + 1) c before)
     × (d ≡ range (λ i t. set t (placeOf Triangle n r i) (cell xs n r i)) (r + 1) c d₀)
+    × (length d ≡ length d₀)
 
 abbrev μ-loop : tie.MeasureT-loop
 μ-loop xs d₀ n r before base same₀ c₀ d same c = n - c
 
 -- the place that is written, in the room
 place-in : (c : tie.After-agrees Inv-loop μ-loop)
-    → c .before .before .before .before .before .row-start .result + (c .before .before .before .before .loop .c - c .before .before .before .before .before .before .before .args .r - 1) < 2016
+    → let k = c .before .before .before .before .before .row-start .result + (c .before .before .before .before .loop .c - c .before .before .before .before .before .before .before .before .args .r - 1) in
+    (k < length (c .before .before .before .before .loop .d)) × (k < 2016)
 place-in c =
-    let s = c .before .before .before .before .before .before .before in
-    write-in (s .args .n) _ (s .args .r) (c .before .before .before .before .loop .c) (s .pre .0) (omega arith) (omega arith) (c .before .before .before .before .before .row-start .ensures)
+    let s = c .before .before .before .before .before .before .before .before in
+    let t = c .before .before .before .before .loop in
+    write-in (s .args .n) _ (s .args .r) (t .c) (length (t .d)) (s .pre .0) (omega arith) (omega arith) (omega (arith, s .pre .3, t .inv .4)) (c .before .before .before .before .before .row-start .ensures)
 
 -- one cell more held to its mirror
 told : (xs : List Float) (same : Bool) (n r c : ℕ) (z : Bool) (x y : Float) → z ≡ (same && eqb (toBits binary64 x) (toBits binary64 y)) → x ≡ cell xs n r c → y ≡ cell xs n c r
@@ -48,13 +51,13 @@ add-c : tie.Need-add-c Inv-loop μ-loop
 add-c c = omega arith
 
 loop-holds : tie.Need-loop-holds Inv-loop μ-loop
-loop-holds c = (search needs, search needs, sym (range-none _ _ _ _ (search needs)), sym (range-none _ _ _ _ (search needs)))
+loop-holds c = (search needs, search needs, sym (range-none _ _ _ _ (search needs)), sym (range-none _ _ _ _ (search needs)), refl)
 
 at-requires : tie.Need-at-requires Inv-loop μ-loop
-at-requires c κs = (c .before .before .before .before .pre .0, omega arith, omega arith, c .before .before .before .before .pre .2)
+at-requires c κs = let s = c .before .before .before .before .before in (s .pre .0, omega arith, omega arith, s .pre .2)
 
 at-requires-2 : tie.Need-at-requires-2 Inv-loop μ-loop
-at-requires-2 c κs = (c .before .before .before .before .before .pre .0, omega arith, omega arith, c .before .before .before .before .before .pre .2)
+at-requires-2 c κs = let s = c .before .before .before .before .before .before in (s .pre .0, omega arith, omega arith, s .pre .2)
 
 agrees-requires : tie.Need-agrees-requires Inv-loop μ-loop
 agrees-requires c κs = search needs
@@ -66,13 +69,13 @@ sub-d-2 : tie.Need-sub-d-2 Inv-loop μ-loop
 sub-d-2 c = omega arith
 
 add-d : tie.Need-add-d Inv-loop μ-loop
-add-d c = omega (arith, place-in c)
+add-d c = omega (arith, place-in c .1)
 
 mul-d : tie.Need-mul-d Inv-loop μ-loop
-mul-d c = omega (arith, place-in c)
+mul-d c = omega (arith, place-in c .1)
 
-element-write-d : tie.Need-element-write-d Inv-loop μ-loop
-element-write-d c = omega (arith, place-in c)
+slice-write-d : tie.Need-slice-write-d Inv-loop μ-loop
+slice-write-d c = place-in c .0
 
 add-c-2 : tie.Need-add-c-2 Inv-loop μ-loop
 add-c-2 c = omega arith
@@ -82,7 +85,7 @@ loop-less c = omega arith
 
 loop-again : tie.Need-loop-again Inv-loop μ-loop
 loop-again c =
-    let s = c .before .before .before .before .before .before .before in
+    let s = c .before .before .before .before .before .before .before .before in
     let g = s .args in
     let k = c .before .before .before .before .loop .c in
     let f : ℕ → Bool → Bool = λ i b. b && isMirror (now (g .xs)) (g .n) (g .r) i in
@@ -96,7 +99,11 @@ loop-again c =
           ∙ ap (λ (j : ℕ). set (c .before .before .before .before .loop .d) j (cell (now (g .xs)) (g .n) (g .r) k)) q
           ∙ ap (u k) (c .before .before .before .before .loop .inv .3)
           ∙ sym (range-more u _ _ _ (c .before .before .before .before .loop .inv .0)),
+      length-set (c .before .before .before .before .loop .d) _ _ ∙ c .before .before .before .before .loop .inv .4,
     )
+
+same-length : tie.Need-same-length Inv-loop μ-loop
+same-length c = c .before .loop .inv .4
 
 returns : tie.Need-returns Inv-loop μ-loop
 unfolding mirrorRow upperRow
@@ -118,8 +125,9 @@ fill-row-spec =
     sub-d-2
     add-d
     mul-d
-    element-write-d
+    slice-write-d
     add-c-2
     loop-less
     loop-again
+    same-length
     returns)
