@@ -12,7 +12,7 @@ use lib.ListN.{length, getD, drop, drop-of-length-le}
 use lib.Seq.{drop-cons}
 use lib.Ieee.{Float, binary64, ofBits}
 use Rattle.fields.specs.Split.{all}
-use Rattle.fields.specs.Numerals.{digit, inBase, number, isCell, cellOf, cellRead, isNumeral, numeralRead}
+use Rattle.fields.specs.Numerals.{digit, inBase, number, isBits, doubleOf, bitsRead, isNumeral, numeralRead}
 use Rattle.fields.specs.Inner.{spelledAfter}
 use Rattle.fields.specs.declared.Cell.{Cell}
 use Rattle.fields.specs.declared.Numeral.{Numeral}
@@ -45,36 +45,36 @@ roomy n base d i h l b g =
 -- ---- what is read, by the length and the digits
 
 -- the double of the bits that a numeral spells
-abbrev pub doubleOf : Numeral → Cell
-doubleOf Malformed = cell.Malformed
-doubleOf (Of b) = cell.Of (ofBits binary64 b)
+abbrev pub cellSpelled : Numeral → Cell
+cellSpelled Malformed = cell.Malformed
+cellSpelled (Of b) = cell.Of (ofBits binary64 b)
 
-pub cell-other : (w : List ℕ) → (length w ≡ 16 → ⊥) → cellRead w ≡ cell.Malformed
-unfolding cellRead isCell
-cell-other w h = rw (ne-eqb (length w) 16 h)
+pub bits-other : (w : List ℕ) → (length w ≡ 16 → ⊥) → bitsRead w ≡ cell.Malformed
+unfolding bitsRead isBits
+bits-other w h = rw (ne-eqb (length w) 16 h)
 
-pub cell-spelled : (w : List ℕ) → length w ≡ 16 → cellRead w ≡ doubleOf (spelledAfter 16 0 w)
-unfolding cellRead isCell spelledAfter
-cell-spelled w h = rw (eq-eqb (length w) 16 h) (go (all (inBase 16) w))
+pub bits-spelled : (w : List ℕ) → length w ≡ 16 → bitsRead w ≡ cellSpelled (spelledAfter 16 0 w)
+unfolding bitsRead isBits spelledAfter
+bits-spelled w h = rw (eq-eqb (length w) 16 h) (go (all (inBase 16) w))
   where
-    go : (t : Bool) → cond t (cell.Of (cellOf w)) cell.Malformed ≡ doubleOf (cond t (Of (number 16 0 w)) Malformed)
+    go : (t : Bool) → cond t (cell.Of (doubleOf w)) cell.Malformed ≡ cellSpelled (cond t (Of (number 16 0 w)) Malformed)
     go true = refl
     go false = refl
 
--- what a call that reads a cell tells of it
-pub cell-no : (w : List ℕ) → cellRead w ≡ cell.Malformed → isCell w ≡ false
-unfolding cellRead
-cell-no w e = go (isCell w) e
+-- what a call that reads bits tells of them
+pub bits-no : (w : List ℕ) → bitsRead w ≡ cell.Malformed → isBits w ≡ false
+unfolding bitsRead
+bits-no w e = go (isBits w) e
   where
-    go : (t : Bool) → cond t (cell.Of (cellOf w)) cell.Malformed ≡ cell.Malformed → t ≡ false
+    go : (t : Bool) → cond t (cell.Of (doubleOf w)) cell.Malformed ≡ cell.Malformed → t ≡ false
     go true h = absurd (let z : _≡_ {A = ℕ} 0 1 = cc in omega arith)
     go false h = refl
 
-pub cell-yes : (w : List ℕ) (v : Float) → cellRead w ≡ cell.Of v → (isCell w ≡ true) × (v ≡ cellOf w)
-unfolding cellRead
-cell-yes w v e = go (isCell w) e
+pub bits-yes : (w : List ℕ) (v : Float) → bitsRead w ≡ cell.Of v → (isBits w ≡ true) × (v ≡ doubleOf w)
+unfolding bitsRead
+bits-yes w v e = go (isBits w) e
   where
-    go : (t : Bool) → cond t (cell.Of (cellOf w)) cell.Malformed ≡ cell.Of v → (t ≡ true) × (v ≡ cellOf w)
+    go : (t : Bool) → cond t (cell.Of (doubleOf w)) cell.Malformed ≡ cell.Of v → (t ≡ true) × (v ≡ doubleOf w)
     go true h = (refl, cc)
     go false h = absurd (let z : _≡_ {A = ℕ} 0 1 = cc in omega arith)
 

@@ -1,4 +1,4 @@
--- What a cell's and a numeral's reading tell. Assumes nothing.
+-- What the readings of bits and of a numeral tell. Assumes nothing.
 use Prim.Native.Nat.{ℕ}
 use mathlib.Core.Path.{_≡_, refl}
 use mathlib.Core.Bool.{Bool, true, false, not, cond}
@@ -6,16 +6,16 @@ use mathlib.Core.List.{List, [], _∷_}
 use Rattle.refusal.specs.Table.{first}
 use Rattle.refusal.specs.Telling.{tells}
 use Rattle.refusal.specs.declared.Refusal.the-variants.{MalformedText}
-use Rattle.fields.specs.Numerals.{isCell, cellOf, cellRead, cellOutcome, cellTells, isNumeral, number, numeralRead, numeralOutcome, numeralTells}
+use Rattle.fields.specs.Numerals.{isBits, doubleOf, bitsRead, bitsOutcome, cellTells, isNumeral, number, numeralRead, numeralOutcome, numeralTells}
 use Rattle.fields.specs.declared.Cell.the-variants as cell
 use Rattle.fields.specs.declared.Numeral.the-variants as numeral
 
 -- 0 and the double, or 15
-pub cell-tells : (w : List ℕ) → cellTells (cellRead w) ≡ tells (cellOutcome w) (cellOf w)
-unfolding cellRead cellOutcome first
-cell-tells w = go (isCell w)
+pub bits-tells : (w : List ℕ) → cellTells (bitsRead w) ≡ tells (bitsOutcome w) (doubleOf w)
+unfolding bitsRead bitsOutcome first
+bits-tells w = go (isBits w)
   where
-    go : (b : Bool) → cellTells (cond b (cell.Of (cellOf w)) cell.Malformed) ≡ tells (first ((not b, MalformedText) ∷ [])) (cellOf w)
+    go : (b : Bool) → cellTells (cond b (cell.Of (doubleOf w)) cell.Malformed) ≡ tells (first ((not b, MalformedText) ∷ [])) (doubleOf w)
     go true = refl
     go false = refl
 

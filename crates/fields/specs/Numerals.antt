@@ -30,17 +30,17 @@ number base n [] = n
 number base n (b ∷ w) = number base (n * base + digit b) w
 
 -- "each cell 16 lower-case hex digits" ..
-unfoldable pub isCell : List ℕ → Bool
+unfoldable pub isBits : List ℕ → Bool
 unfolding digit all
-isCell w = eqb (length w) 16 && all (inBase 16) w
+isBits w = eqb (length w) 16 && all (inBase 16) w
 
 -- .. the bits of a double
-abbrev pub cellOf : List ℕ → Float
-cellOf w = ofBits binary64 (number 16 0 w)
+abbrev pub doubleOf : List ℕ → Float
+doubleOf w = ofBits binary64 (number 16 0 w)
 
-unfoldable pub cellRead : List ℕ → Cell
-unfolding isCell number
-cellRead w = cond (isCell w) (cell.Of (cellOf w)) cell.Malformed
+unfoldable pub bitsRead : List ℕ → Cell
+unfolding isBits number
+bitsRead w = cond (isBits w) (cell.Of (doubleOf w)) cell.Malformed
 
 -- "1 to 9 digits"
 unfoldable pub isNumeral : List ℕ → Bool
@@ -51,11 +51,11 @@ unfoldable pub numeralRead : List ℕ → Numeral
 unfolding isNumeral number
 numeralRead w = cond (isNumeral w) (numeral.Of (number 10 0 w)) numeral.Malformed
 
--- ---- what the answers tell: a field that is no cell, or no numeral, is in a "job text" that "is malformed" (15)
+-- ---- what the answers tell: a field that is not 16 such digits, or no numeral, is in a "job text" that "is malformed" (15)
 
-unfoldable pub cellOutcome : List ℕ → Outcome
-unfolding isCell
-cellOutcome w = first ((not (isCell w), MalformedText) ∷ [])
+unfoldable pub bitsOutcome : List ℕ → Outcome
+unfolding isBits
+bitsOutcome w = first ((not (isBits w), MalformedText) ∷ [])
 
 abbrev pub cellTells : Cell → Telling Float
 cellTells (cell.Of x) = accepts x

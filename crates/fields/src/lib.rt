@@ -4,7 +4,7 @@ ghost use mathlib.Core.Path.{_≡_};
 ghost use Prim.Native.Nat.{_-_, _≤_};
 ghost use lib.ListN.{length};
 ghost use Rattle.fields.specs.Split.{split, endOf, piece as pieceOf};
-ghost use Rattle.fields.specs.Numerals.{cellRead, numeralRead, digit as digitOf};
+ghost use Rattle.fields.specs.Numerals.{bitsRead, numeralRead, digit as digitOf};
 ghost use Rattle.fields.specs.Inner.{spelledAfter};
 
 pub enum Cell {
@@ -65,7 +65,7 @@ pub fn piece(s: &[u8], d: u8, k: usize) -> &[u8]
 }
 
 // What a digit is worth; 16 where the byte is no digit.
-fn digit(b: u8) -> usize
+pub fn digit(b: u8) -> usize
     ensures { λ r. ⌜ r ≡ digitOf b ⌝ }
 {
     let v = b as usize;
@@ -103,9 +103,9 @@ fn spelled(w: &[u8], base: usize) -> Numeral
     Numeral::Of(n)
 }
 
-// A double from its 16 lower-case hex digits.
-pub fn read_cell(w: &[u8]) -> Cell
-    ensures { λ r. ⌜ r ≡ cellRead (now (w .entry)) ⌝ }
+// A double from the 16 lower-case hex digits of its bits.
+pub fn read_bits(w: &[u8]) -> Cell
+    ensures { λ r. ⌜ r ≡ bitsRead (now (w .entry)) ⌝ }
 {
     if w.len() != 16 {
         return Cell::Malformed;
