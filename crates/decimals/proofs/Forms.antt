@@ -1,12 +1,13 @@
 -- "A decimal can never have that form": no bytes are both 16 hex digits and a decimal. Assumes nothing.
 use mathlib.Core.Path.{_≡_, refl, sym, ap, _∙_}
-use mathlib.Core.Bool.{Bool, true, false, cond, _&&_, _||_}
+use mathlib.Core.Bool.{Bool, true, false, cond, _&&_, _||_, true≢false}
 use mathlib.Core.List.{List, [], _∷_}
-use Prim.Native.Nat.{ℕ}
+use Prim.Native.Nat.{ℕ, _≤_}
 use native.Mathlib.Omega.{arith}
 use borrow.Author.Tests.{eqb-true, ne-eqb}
 use lib.Dec.{eqb}
 use lib.ListN.{length, drop, getD}
+use lib.Ieee.{Float}
 use Rattle.fields.specs.Split.{onto, split, all}
 use Rattle.fields.specs.Numerals.{digit, inBase, isBits, doubleOf}
 use Rattle.fields.specs.declared.Cell.the-variants.{Malformed, Of}
@@ -44,18 +45,35 @@ never-both w c d =
     omega arith
 
 -- so it does not matter which form is tried first
-pub decimal-meant : (w : List ℕ) → isDecimal w ≡ true → cellRead w ≡ Of (decimalOf w)
-unfolding cellRead isCell cellOf
-decimal-meant w d = go (isBits w) (never-both w)
+pub decimal-cell : (w : List ℕ) → isDecimal w ≡ true → (isCell w ≡ true) × (cellOf w ≡ decimalOf w)
+unfolding isCell cellOf
+decimal-cell w d = go (isBits w) (never-both w)
   where
-    go : (t : Bool) → (t ≡ true → isDecimal w ≡ true → ⊥) → cond (t || isDecimal w) (Of (cond t (doubleOf w) (decimalOf w))) Malformed ≡ Of (decimalOf w)
+    go : (t : Bool) → (t ≡ true → isDecimal w ≡ true → ⊥) → ((t || isDecimal w) ≡ true) × (cond t (doubleOf w) (decimalOf w) ≡ decimalOf w)
     go true h = absurd (h refl d)
-    go false h = rw d
+    go false h = (d, refl)
+
+-- "a cell of 16 lower-case hex digits keeps its old meaning"
+pub bits-cell : (w : List ℕ) → isBits w ≡ true → (isCell w ≡ true) × (cellOf w ≡ doubleOf w)
+unfolding isCell cellOf
+bits-cell w e = (rw e, rw e)
+
+cell-meant : (w : List ℕ) (x : Float) → (isCell w ≡ true) × (cellOf w ≡ x) → cellRead w ≡ Of x
+unfolding cellRead
+cell-meant w x p = rw (p .0, p .1)
+
+pub decimal-meant : (w : List ℕ) → isDecimal w ≡ true → cellRead w ≡ Of (decimalOf w)
+decimal-meant w d = cell-meant w (decimalOf w) (decimal-cell w d)
 
 pub bits-meant : (w : List ℕ) → isBits w ≡ true → cellRead w ≡ Of (doubleOf w)
-unfolding cellRead isCell cellOf
-bits-meant w e = rw e
+bits-meant w e = cell-meant w (doubleOf w) (bits-cell w e)
 
 pub neither-refused : (w : List ℕ) → isBits w ≡ false → isDecimal w ≡ false → cellRead w ≡ Malformed
 unfolding cellRead isCell
 neither-refused w e f = rw (e, f)
+
+-- a cell has a byte: a row of n cells is n bytes at least
+pub cell-some : (w : List ℕ) → isCell w ≡ true → 1 ≤ length w
+unfolding isCell isBits isDecimal isBare shaped bare signed split
+cell-some [] e = absurd (true≢false (sym e))
+cell-some (b ∷ w) e = omega arith

@@ -57,10 +57,12 @@ overTens n k = div binary64 (ofInt binary64 (pos n)) (ofInt binary64 (pos (10 ^ 
 unfoldable pub signedBy : Bool → Float → Float
 signedBy s x = cond s (neg x) x
 
+-- a cell of this form
 unfoldable pub isDecimal : List ℕ → Bool
 unfolding bare isBare
 isDecimal w = isBare (bare w)
 
+-- "The value is the double nearest the exact decimal": that it is, is the law `decimal-nearest`
 unfoldable pub decimalOf : List ℕ → Float
 unfolding signed bare digitsOf overTens signedBy
 decimalOf w = signedBy (signed w) (overTens (digitsOf (bare w)) (placesOf (bare w)))
@@ -69,7 +71,7 @@ unfoldable pub decimalRead : List ℕ → Cell
 unfolding isDecimal decimalOf
 decimalRead w = cond (isDecimal w) (Of (decimalOf w)) Malformed
 
--- "A cell may also be" a decimal: 16 lower-case hex digits, or a decimal
+-- "A cell may also be an optional minus, digits, ..": it has one form or the other
 unfoldable pub isCell : List ℕ → Bool
 unfolding isBits isDecimal
 isCell w = isBits w || isDecimal w
