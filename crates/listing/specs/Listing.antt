@@ -16,7 +16,8 @@ use Rattle.text.specs.Bytes.{bytes}
 use Rattle.fields.specs.Split.{newline, tabulator, all}
 use Rattle.millionths.specs.Millionths.{millionthsIn, millionthsLines}
 use Rattle.tree.specs.Rows.{isOrder}
-use Rattle.reading.specs.Reading.{most-bytes, nameFrom}
+use Rattle.names.specs.Names.{nameFrom}
+use Rattle.reading.specs.Reading.{most-bytes}
 use Rattle.listing.specs.declared.Listed.{Listed}
 use Rattle.listing.specs.declared.Listed.the-variants as listed
 

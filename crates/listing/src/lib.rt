@@ -144,7 +144,7 @@ fn put_assets(
         at = put_asset(
             out,
             at,
-            reading::name(text, starts[i]),
+            names::name(text, starts[i]),
             weights[i],
             parts[i] as u64,
         );
@@ -172,7 +172,7 @@ fn put_order(text: &[u8], starts: &[usize], order: &[usize], out: &mut [u8], fro
     let mut k = 0;
     while k < order.len() {
         let tabbed = put_byte(out, at, b'\t');
-        at = append(out, tabbed, reading::name(text, starts[asset_at(order, k)]));
+        at = append(out, tabbed, names::name(text, starts[asset_at(order, k)]));
         k += 1;
     }
     at
@@ -202,7 +202,7 @@ fn all_short(text: &[u8], starts: &[usize]) -> bool
 {
     let mut i = 0;
     while i < starts.len() {
-        if 16 < reading::name(text, starts[i]).len() {
+        if 16 < names::name(text, starts[i]).len() {
             return false;
         }
         i += 1;

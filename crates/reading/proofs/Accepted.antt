@@ -1,16 +1,14 @@
--- What an accepted job text gives its caller: its assets, their names, and what its first line asks for. Assumes nothing.
-use Prim.Native.Nat.{ℕ, _+_, _-_, _<_, _≤_}
+-- What an accepted job text gives its caller: its assets, their names, its cells, and what its first line asks for. Assumes nothing.
+use Prim.Native.Nat.{ℕ, zero, suc, _+_, _-_, _*_, _<_, _≤_}
 use mathlib.Core.Path.{_≡_, refl, sym, ap, _∙_}
-use mathlib.Core.Bool.{true, not, _&&_, _||_, false≢true}
-use mathlib.Core.List.{List, []}
+use mathlib.Core.Bool.{Bool, true, false, cond, not, _&&_}
+use mathlib.Core.List.{List, [], _∷_}
 use mathlib.Core.Logic.{⊎-elim}
-use native.Mathlib.Decide.{decLe}
-use native.Mathlib.Nat.{lt-of-not-le}
 use native.Mathlib.Omega.{arith}
 use borrow.Author.Tests.{leb-true}
 use lib.Dec.{eqb, leb}
-use lib.ListN.{length, getD, take, drop, length-drop}
-use lib.Seq.{getD-drop, length-take-le}
+use lib.ListN.{length, getD, drop, length-drop}
+use lib.Seq.{getD-drop, getD-take, drop-drop}
 use Rattle.refusal.specs.Table.{first}
 use Rattle.refusal.specs.declared.Refusal.{Refusal}
 use Rattle.refusal.specs.declared.Outcome.{Outcome}
@@ -18,183 +16,228 @@ use Rattle.refusal.specs.declared.Outcome.the-variants as outcome
 use Rattle.lent.proofs.Laws.{either, getD-tab}
 use Rattle.text.specs.Bytes.{bytes, same}
 use Rattle.fields.specs.Split.{split, firstPiece, all}
-use Rattle.fields.specs.Numerals.{isCell}
-use Rattle.fields.proofs.Every.{three-yes, four-yes, all-at}
+use Rattle.fields.proofs.Every.{both-left, both-right, three-yes, all-at}
 use Rattle.fields.proofs.Pieces.{piece-upto}
-use Rattle.linkage.specs.Names.{distanceNamed, linkageNamed}
+use Rattle.heading.specs.Heading.{field, fieldsIn, headOf}
+use Rattle.heading.specs.declared.Heading.{Heading}
+use Rattle.heading.specs.declared.Heading.the-variants as heading
 use Rattle.linkage.specs.declared.Distance.{Distance}
 use Rattle.linkage.specs.declared.Linkage.{Linkage}
-use Rattle.linkage.specs.declared.NamedDistance.{NamedDistance}
-use Rattle.linkage.specs.declared.NamedLinkage.{NamedLinkage}
-use Rattle.linkage.specs.declared.NamedDistance.the-variants as distance
-use Rattle.linkage.specs.declared.NamedLinkage.the-variants as linkage
-use Rattle.reading.specs.Reading.{lines, rest, line, field, fieldsIn, assets, clustersOf, wellAsked, isHrp, isHcaa, inName, isName, isAsset, isJob, nameOf, startOf, startsIn, textLines, readOutcome, hrpRead, hcaaRead, jobIn, readAs, readOf}
-use Rattle.reading.specs.Inner.{isBody}
+use Rattle.names.specs.Names.{inName, isName, nameFrom}
+use Rattle.reading.specs.Reading.{lines, rest, line, priced, rowsIn, assets, isRow, isAsset, isDay, isNames, isCovariance, isPrices, isBlock, isJob, nameOf, startOf, nameStart, startsIn, textLines, readOutcome, jobOf, jobIn, readAs, readOf}
 use Rattle.reading.specs.declared.Reading.{Reading}
 use Rattle.reading.specs.declared.Reading.the-variants as reading
-use Rattle.reading.proofs.Lines.{line-at, line-is}
-use Rattle.reading.proofs.Whole.{or-right, first-line, done-job, kept, body-crowded}
+use Rattle.reading.proofs.Starts.{start-in, piece-at}
+use Rattle.reading.proofs.Table.{within, ends, block-good, done-job, done-within, kept}
 use Rattle.reading.proofs.Answer.{outcome-done, refused-is}
 
--- ---- the lines of a job's text
+-- what stands before the first d, from a place in it on
+upto-drop : (d : ℕ) (s : List ℕ) (b : ℕ) → b ≤ length (firstPiece d s) → firstPiece d (drop b s) ≡ drop b (firstPiece d s)
+unfolding firstPiece
+upto-drop d s zero h = refl
+upto-drop d [] (suc b) h = absurd (omega arith)
+upto-drop d (x ∷ s) (suc b) h = go (eqb x d) (upto-drop d s b) h
+  where
+    go : (t : Bool) → (b ≤ length (firstPiece d s) → firstPiece d (drop b s) ≡ drop b (firstPiece d s)) → suc b ≤ length (cond t [] (x ∷ firstPiece d s))
+        → firstPiece d (drop b s) ≡ drop (suc b) (cond t [] (x ∷ firstPiece d s))
+    go true ih q = absurd (omega arith)
+    go false ih q = ih (omega arith)
 
-module _ (text : List ℕ) (job : isJob text ≡ true) where
-  tests : (eqb (length (rest text)) 0 ≡ true)
-      × (leb 1 (length (lines text)) ≡ true)
-      × ((isHrp (line text 0) || isHcaa (line text 0)) ≡ true)
-      × (all (isAsset (assets text)) (drop 1 (lines text)) ≡ true)
-  unfolding isJob
-  tests = four-yes (eqb (length (rest text)) 0) (leb 1 (length (lines text))) (isHrp (line text 0) || isHcaa (line text 0)) (all (isAsset (assets text)) (drop 1 (lines text))) job
+-- a test picked by another
+picked : (p x y : Bool) → p ≡ true → cond p x y ≡ true → x ≡ true
+picked true x y e h = h
+picked false x y e h = absurd (let z : _≡_ {A = ℕ} 0 1 = cc in omega arith)
 
-  -- a first line, the assets' lines, and nothing after them
-  pub cut : length (split 10 text) ≡ assets text + 2
-  cut =
-      let h = leb-true 1 (length (lines text)) (tests .1) in
-      let l = length-take-le (length (split 10 text) - 1) (split 10 text) (omega arith) in
-      omega arith
+passed : (p x y : Bool) → p ≡ false → cond p x y ≡ true → y ≡ true
+passed true x y e h = absurd (let z : _≡_ {A = ℕ} 0 1 = cc in omega arith)
+passed false x y e h = h
 
-  body : isBody text ≡ true
-  unfolding isBody
-  body = rw (tests .0, tests .3)
+-- ---- either block
 
-  -- "0 to 64 assets"
-  pub assets-few : length text ≤ 65536 → assets text ≤ 64
-  assets-few t = go (decLe (assets text) 64)
-    where
-      go : Dec (assets text ≤ 64) → assets text ≤ 64
-      go (yes h) = h
-      go (no h) = absurd (false≢true (sym (body-crowded text (assets text) cut t (lt-of-not-le h)) ∙ body))
+module _ (text : List ℕ) where
+  -- a covariance is square
+  pub square : priced text ≡ false → rowsIn text ≡ assets text
+  unfolding assets
+  square e = rw e
 
-  module _ (i : ℕ) (h : i < assets text) where
-    pub asset-good : isAsset (assets text) (line text (i + 1)) ≡ true
-    asset-good =
-        let l = lines text in
-        let d = length-drop 1 l in
-        let a : 1 + i ≡ i + 1 = omega arith in
-        let e : length (split 10 text) - 1 ≡ assets text + 1 = omega (arith, cut) in
-        let g : getD (drop 1 l) i [] ≡ line text (i + 1) =
-        getD-drop 1 l i []
-        ∙ ap (λ (k : ℕ). getD l k []) a
-        ∙ ap (λ (k : ℕ). getD (take k (split 10 text)) (i + 1) []) e
-        ∙ line-is text (assets text) cut i h in
-        sym (ap (isAsset (assets text)) g) ∙ all-at (isAsset (assets text)) (drop 1 l) [] (tests .3) i (omega arith)
+  plain-rows : priced text ≡ false → rowsIn text ≡ length (lines text) - 1
+  unfolding rowsIn
+  plain-rows e = rw e
 
-    pub name-good : isName (nameOf text i) ≡ true
-    unfolding isAsset nameOf
-    name-good =
-        let w = split 9 (line text (i + 1)) in
-        three-yes (eqb (length w) (assets text + 1)) (isName (field (line text (i + 1)) 0)) (all isCell (drop 1 w)) asset-good .1
+  priced-assets : priced text ≡ true → assets text ≡ fieldsIn (line text 1)
+  unfolding assets
+  priced-assets e = rw e
 
-    -- "a name of 1 to 16 bytes"
-    pub name-short : (1 ≤ length (nameOf text i)) × (length (nameOf text i) ≤ 16)
-    unfolding isName
-    name-short =
-        let w = nameOf text i in
-        let y = three-yes (leb 1 (length w)) (leb (length w) 16) (all inName w && (not (same w (bytes "order")) && not (same w (bytes "refused")))) name-good in
-        (leb-true 1 (length w) (y .0), leb-true (length w) 16 (y .1))
+  plain-block : priced text ≡ false → isBlock text ≡ true → all (isAsset (assets text)) (drop 1 (lines text)) ≡ true
+  unfolding isBlock isCovariance
+  plain-block e b = passed (priced text) (isPrices text) (isCovariance text) e (both-right (eqb (length (rest text)) 0) _ b)
 
-    -- `name` finds it where the line begins ..
-    pub name-at : firstPiece 9 (firstPiece 10 (drop (startOf text (i + 1)) text)) ≡ nameOf text i
+  priced-block : priced text ≡ true → isBlock text ≡ true → (2 ≤ length (lines text)) × (isNames (line text 1) ≡ true)
+  unfolding isBlock isPrices
+  priced-block e b =
+      let t = three-yes (leb 2 (length (lines text))) (isNames (line text 1)) (all (isDay (assets text)) (drop 2 (lines text))) (picked (priced text) (isPrices text) (isCovariance text) e (both-right (eqb (length (rest text)) 0) _ b)) in
+      (leb-true 2 (length (lines text)) (t .0), t .1)
+
+  module _ (i : ℕ) where
+    plain-name : priced text ≡ false → nameOf text i ≡ field (line text (i + 1)) 0
     unfolding nameOf
-    name-at = ap (firstPiece 9) (sym (line-at text (i + 1) (omega (arith, cut)))) ∙ sym (piece-upto 9 (line text (i + 1)))
+    plain-name e = rw e
 
-    -- .. which the lent numbers hold
-    pub start-kept : getD (startsIn text) i 0 ≡ startOf text (i + 1)
-    unfolding startsIn
-    start-kept = getD-tab (assets text) (λ (k : ℕ). startOf text (k + 1)) i 0 h
+    priced-name : priced text ≡ true → nameOf text i ≡ field (line text 1) i
+    unfolding nameOf
+    priced-name e = rw e
+
+    plain-start : priced text ≡ false → nameStart text i ≡ startOf 10 text (i + 1)
+    unfolding nameStart
+    plain-start e = rw e
+
+    priced-start : priced text ≡ true → nameStart text i ≡ startOf 10 text 1 + startOf 9 (line text 1) i
+    unfolding nameStart
+    priced-start e = rw e
+
+    module _ (job : isJob text ≡ true) (h : i < assets text) where
+      -- ---- of a covariance: the first field of asset i's line
+
+      module _ (e : priced text ≡ false) where
+        low : i + 1 < length (split 10 text) - 1
+        low = omega (arith, square e, plain-rows e, ends text)
+
+        line-in : getD (drop 1 (lines text)) i [] ≡ line text (i + 1)
+        line-in =
+            let a : 1 + i ≡ i + 1 = omega arith in
+            getD-drop 1 (lines text) i [] ∙ ap (λ (k : ℕ). getD (lines text) k []) a ∙ getD-take (length (split 10 text) - 1) (split 10 text) (i + 1) [] low
+
+        asset-good : isAsset (assets text) (line text (i + 1)) ≡ true
+        asset-good =
+            sym (ap (isAsset (assets text)) line-in)
+            ∙ all-at (isAsset (assets text)) (drop 1 (lines text)) [] (plain-block e (block-good text job)) i (omega (arith, length-drop 1 (lines text), ends text, low))
+
+        plain-good : isName (nameOf text i) ≡ true
+        unfolding isAsset
+        plain-good = ap isName (plain-name e) ∙ both-left (isName (field (line text (i + 1)) 0)) (isRow (assets text) (drop 1 (split 9 (line text (i + 1))))) asset-good
+
+        plain-at : nameFrom text (nameStart text i) ≡ nameOf text i
+        plain-at =
+            ap (nameFrom text) (plain-start e)
+            ∙ ap (firstPiece 9) (sym (piece-at 10 text (i + 1) (omega (arith, low))))
+            ∙ sym (piece-upto 9 (line text (i + 1)))
+            ∙ sym (plain-name e)
+
+      -- ---- of prices: field i of the line of names
+
+      module _ (e : priced text ≡ true) where
+        field-in : i < length (split 9 (line text 1))
+        field-in = omega (arith, priced-assets e)
+
+        second : 1 < length (split 10 text)
+        second = omega (arith, priced-block e (block-good text job) .0, ends text)
+
+        priced-good : isName (nameOf text i) ≡ true
+        unfolding isNames
+        priced-good = ap isName (priced-name e) ∙ all-at isName (split 9 (line text 1)) [] (priced-block e (block-good text job) .1) i field-in
+
+        priced-at : nameFrom text (nameStart text i) ≡ nameOf text i
+        priced-at =
+            let a = startOf 10 text 1 in
+            let b = startOf 9 (line text 1) i in
+            let l : line text 1 ≡ firstPiece 10 (drop a text) = piece-at 10 text 1 second in
+            let m : b ≤ length (firstPiece 10 (drop a text)) = omega (arith, start-in 9 (line text 1) i field-in, ap length l) in
+            ap (nameFrom text) (priced-start e)
+            ∙ ap (λ (s : List ℕ). firstPiece 9 (firstPiece 10 s)) (sym (drop-drop b a text))
+            ∙ ap (firstPiece 9) (upto-drop 10 (drop a text) b m ∙ ap (drop b) (sym l))
+            ∙ sym (piece-at 9 (line text 1) i field-in)
+            ∙ sym (priced-name e)
+
+      -- ---- of either
+
+      pub name-good : isName (nameOf text i) ≡ true
+      name-good = ⊎-elim priced-good plain-good (either (priced text))
+
+      -- "a name of 1 to 16 bytes"
+      pub name-short : (1 ≤ length (nameOf text i)) × (length (nameOf text i) ≤ 16)
+      unfolding isName
+      name-short =
+          let w = nameOf text i in
+          let y = three-yes (leb 1 (length w)) (leb (length w) 16) (all inName w && (not (same w (bytes "order")) && not (same w (bytes "refused")))) name-good in
+          (leb-true 1 (length w) (y .0), leb-true (length w) 16 (y .1))
+
+      -- `name` finds it where it begins ..
+      pub name-at : nameFrom text (nameStart text i) ≡ nameOf text i
+      name-at = ⊎-elim priced-at plain-at (either (priced text))
+
+      -- .. which the lent numbers hold
+      pub start-kept : getD (startsIn text) i 0 ≡ nameStart text i
+      unfolding startsIn
+      start-kept = getD-tab (assets text) (nameStart text) i 0 h
 
 -- ---- an accepted call
 
 pub record Accepted (text : List ℕ) : Type 0 where
   pub job : isJob text ≡ true
+  -- "0 to 64 assets", and 4,096 cells
   pub few : assets text ≤ 64
+  pub cells-few : rowsIn text * assets text ≤ 4096
   pub tabled : first (textLines text) ≡ outcome.Done
 
 pub accepted : (text : List ℕ) (cells places : ℕ) → readOutcome text cells places ≡ outcome.Done → Accepted text
 accepted text cells places e =
     let p = outcome-done text cells places e in
     let j = done-job text (p .1) in
-    record { job = j; few = assets-few text j (p .0 .short); tabled = p .1 }
-
--- an `hcaa` line asks for clusters
-pub hcaa-asked : (l : List ℕ) → isHcaa l ≡ true → wellAsked (clustersOf (field l 4)) ≡ true
-unfolding isHcaa
-hcaa-asked l e = three-yes (eqb (fieldsIn l) 5) (same (field l 0) (bytes "hcaa")) (wellAsked (clustersOf (field l 4))) e .2
+    let w = within (rowsIn text) (assets text) (done-within text j (p .1)) in
+    record { job = j; few = w .0; cells-few = w .1; tabled = p .1 }
 
 -- ---- what an answer says
 
-pub record Hrp (text : List ℕ) (n : ℕ) (d : Distance) : Type 0 where
-  pub line-is-hrp : isHrp (line text 0) ≡ true
+-- rows of n cells, prices or not, and what the first line asks for
+pub record Answered (text : List ℕ) (n rows : ℕ) (p : Bool) (asked : Heading) : Type 0 where
   pub counted : n ≡ assets text
-  pub named : distanceNamed (field (line text 0) 1) ≡ distance.Of d
+  pub lined : rows ≡ rowsIn text
+  pub kind : p ≡ priced text
+  pub asked-for : headOf (line text 0) ≡ asked
 
-pub record Hcaa (text : List ℕ) (n : ℕ) (m : Linkage) (d : Distance) : Type 0 where
-  pub line-is-hcaa : isHcaa (line text 0) ≡ true
-  pub counted : n ≡ assets text
-  pub linked : linkageNamed (field (line text 0) 2) ≡ linkage.Of m
-  pub named : distanceNamed (field (line text 0) 3) ≡ distance.Of d
+of-hrp : (a b : ℕ) (q : Bool) (h : Heading) (n rows : ℕ) (p : Bool) (d : Distance) → jobOf a b q h ≡ reading.Hrp n rows p d → (n ≡ a) × (rows ≡ b) × (p ≡ q) × (h ≡ heading.Hrp d)
+of-hrp a b q (heading.Refused r) n rows p d e = absurd (let z : _≡_ {A = ℕ} 0 1 = cc in omega arith)
+of-hrp a b q (heading.Hrp f) n rows p d e = (cc, cc, cc, cc)
+of-hrp a b q (heading.Hcaa l f) n rows p d e = absurd (let z : _≡_ {A = ℕ} 0 1 = cc in omega arith)
 
--- what is read of each kind of line, by cases
+of-hcaa : (a b : ℕ) (q : Bool) (h : Heading) (n rows : ℕ) (p : Bool) (l : Linkage) (d : Distance) → jobOf a b q h ≡ reading.Hcaa n rows p l d
+    → (n ≡ a) × (rows ≡ b) × (p ≡ q) × (h ≡ heading.Hcaa l d)
+of-hcaa a b q (heading.Refused r) n rows p l d e = absurd (let z : _≡_ {A = ℕ} 0 1 = cc in omega arith)
+of-hcaa a b q (heading.Hrp f) n rows p l d e = absurd (let z : _≡_ {A = ℕ} 0 1 = cc in omega arith)
+of-hcaa a b q (heading.Hcaa k f) n rows p l d e = (cc, cc, cc, cc)
 
-hrp-hrp : (n k : ℕ) (x : NamedDistance) (d : Distance) → hrpRead n x ≡ reading.Hrp k d → (k ≡ n) × (x ≡ distance.Of d)
-hrp-hrp n k (distance.Of e) d h = (cc, cc)
-hrp-hrp n k (distance.Refused r) d h = absurd (let z : _≡_ {A = ℕ} 0 1 = cc in omega arith)
+as-hrp : (o : Outcome) (j : Reading) (n rows : ℕ) (p : Bool) (d : Distance) → readAs o j ≡ reading.Hrp n rows p d → (o ≡ outcome.Done) × (j ≡ reading.Hrp n rows p d)
+as-hrp outcome.Done j n rows p d e = (refl, e)
+as-hrp (outcome.Refused r) j n rows p d e = absurd (let z : _≡_ {A = ℕ} 0 1 = cc in omega arith)
 
-hrp-hcaa : (n k : ℕ) (x : NamedDistance) (m : Linkage) (d : Distance) → hrpRead n x ≡ reading.Hcaa k m d → ⊥
-hrp-hcaa n k (distance.Of e) m d h = let z : _≡_ {A = ℕ} 0 1 = cc in omega arith
-hrp-hcaa n k (distance.Refused r) m d h = let z : _≡_ {A = ℕ} 0 1 = cc in omega arith
+as-hcaa : (o : Outcome) (j : Reading) (n rows : ℕ) (p : Bool) (l : Linkage) (d : Distance) → readAs o j ≡ reading.Hcaa n rows p l d
+    → (o ≡ outcome.Done) × (j ≡ reading.Hcaa n rows p l d)
+as-hcaa outcome.Done j n rows p l d e = (refl, e)
+as-hcaa (outcome.Refused r) j n rows p l d e = absurd (let z : _≡_ {A = ℕ} 0 1 = cc in omega arith)
 
-hcaa-hrp : (n k : ℕ) (a : NamedLinkage) (x : NamedDistance) (d : Distance) → hcaaRead n a x ≡ reading.Hrp k d → ⊥
-hcaa-hrp n k (linkage.Of l) (distance.Of e) d h = let z : _≡_ {A = ℕ} 0 1 = cc in omega arith
-hcaa-hrp n k (linkage.Of l) (distance.Refused r) d h = let z : _≡_ {A = ℕ} 0 1 = cc in omega arith
-hcaa-hrp n k (linkage.Refused r) x d h = let z : _≡_ {A = ℕ} 0 1 = cc in omega arith
+-- a job of the text is of its rows and assets
+pub job-hrp : (text : List ℕ) (n rows : ℕ) (p : Bool) (d : Distance) → jobIn text ≡ reading.Hrp n rows p d → Answered text n rows p (heading.Hrp d)
+unfolding jobIn
+job-hrp text n rows p d e =
+    let y = of-hrp (assets text) (rowsIn text) (priced text) (headOf (line text 0)) n rows p d e in
+    record { counted = y .0; lined = y .1; kind = y .2; asked-for = y .3 }
 
-hcaa-hcaa : (n k : ℕ) (a : NamedLinkage) (x : NamedDistance) (m : Linkage) (d : Distance) → hcaaRead n a x ≡ reading.Hcaa k m d
-    → (k ≡ n) × (a ≡ linkage.Of m) × (x ≡ distance.Of d)
-hcaa-hcaa n k (linkage.Of l) (distance.Of e) m d h = (cc, cc, cc)
-hcaa-hcaa n k (linkage.Of l) (distance.Refused r) m d h = absurd (let z : _≡_ {A = ℕ} 0 1 = cc in omega arith)
-hcaa-hcaa n k (linkage.Refused r) x m d h = absurd (let z : _≡_ {A = ℕ} 0 1 = cc in omega arith)
-
-as-hrp : (o : Outcome) (j : Reading) (n : ℕ) (d : Distance) → readAs o j ≡ reading.Hrp n d → (o ≡ outcome.Done) × (j ≡ reading.Hrp n d)
-as-hrp outcome.Done j n d e = (refl, e)
-as-hrp (outcome.Refused r) j n d e = absurd (let z : _≡_ {A = ℕ} 0 1 = cc in omega arith)
-
-as-hcaa : (o : Outcome) (j : Reading) (n : ℕ) (m : Linkage) (d : Distance) → readAs o j ≡ reading.Hcaa n m d → (o ≡ outcome.Done) × (j ≡ reading.Hcaa n m d)
-as-hcaa outcome.Done j n m d e = (refl, e)
-as-hcaa (outcome.Refused r) j n m d e = absurd (let z : _≡_ {A = ℕ} 0 1 = cc in omega arith)
+pub job-hcaa : (text : List ℕ) (n rows : ℕ) (p : Bool) (l : Linkage) (d : Distance) → jobIn text ≡ reading.Hcaa n rows p l d → Answered text n rows p (heading.Hcaa l d)
+unfolding jobIn
+job-hcaa text n rows p l d e =
+    let y = of-hcaa (assets text) (rowsIn text) (priced text) (headOf (line text 0)) n rows p l d e in
+    record { counted = y .0; lined = y .1; kind = y .2; asked-for = y .3 }
 
 module _ (text : List ℕ) (cells places : ℕ) where
-  pub read-hrp : (n : ℕ) (d : Distance) → readOf text cells places ≡ reading.Hrp n d → (readOutcome text cells places ≡ outcome.Done) × Hrp text n d
-  unfolding readOf jobIn
-  read-hrp n d e =
-      let o = as-hrp (readOutcome text cells places) (jobIn text) n d e in
-      let j = o .1 in (
-        o .0,
-        ⊎-elim
-            (λ h. let y = hrp-hrp (assets text) n (distanceNamed (field (line text 0) 1)) d (rw h at j) in record { line-is-hrp = h; counted = y .0; named = y .1 })
-            (λ h. absurd (hcaa-hrp (assets text) n (linkageNamed (field (line text 0) 2)) (distanceNamed (field (line text 0) 3)) d (rw h at j)))
-            (either (isHrp (line text 0))),
-      )
+  pub read-hrp : (n rows : ℕ) (p : Bool) (d : Distance) → readOf text cells places ≡ reading.Hrp n rows p d
+      → (readOutcome text cells places ≡ outcome.Done) × (jobIn text ≡ reading.Hrp n rows p d)
+  unfolding readOf
+  read-hrp n rows p d e = as-hrp (readOutcome text cells places) (jobIn text) n rows p d e
 
-  pub read-hcaa : (n : ℕ) (m : Linkage) (d : Distance) → readOf text cells places ≡ reading.Hcaa n m d → (readOutcome text cells places ≡ outcome.Done) × Hcaa text n m d
-  unfolding readOf jobIn
-  read-hcaa n m d e =
-      let o = as-hcaa (readOutcome text cells places) (jobIn text) n m d e in
-      let j = o .1 in
-      let a = accepted text cells places (o .0) in (
-        o .0,
-        ⊎-elim
-            (λ h. absurd (hrp-hcaa (assets text) n (distanceNamed (field (line text 0) 1)) m d (rw h at j)))
-            (λ h.
-            let y = hcaa-hcaa (assets text) n (linkageNamed (field (line text 0) 2)) (distanceNamed (field (line text 0) 3)) m d (rw h at j) in
-            record {
-              line-is-hcaa = or-right (isHrp (line text 0)) (isHcaa (line text 0)) h (first-line text (a .job));
-              counted = y .0;
-              linked = y .1;
-              named = y .2;
-            })
-            (either (isHrp (line text 0))),
-      )
+  pub read-hcaa : (n rows : ℕ) (p : Bool) (l : Linkage) (d : Distance) → readOf text cells places ≡ reading.Hcaa n rows p l d
+      → (readOutcome text cells places ≡ outcome.Done) × (jobIn text ≡ reading.Hcaa n rows p l d)
+  unfolding readOf
+  read-hcaa n rows p l d e = as-hcaa (readOutcome text cells places) (jobIn text) n rows p l d e
 
   pub read-refused : (k : Refusal) → readOf text cells places ≡ reading.Refused k → readOutcome text cells places ≡ outcome.Refused k
   unfolding readOf

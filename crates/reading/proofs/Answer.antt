@@ -13,11 +13,11 @@ use Rattle.refusal.proofs.Tables.{none, first-done, first-refused, parts-done}
 use Rattle.refusal.specs.declared.Outcome.the-variants as outcome
 use Rattle.lent.specs.Grid.{zeros, noughts}
 use Rattle.lent.proofs.Sizes.{laid-done, laid-refused}
-use Rattle.reading.specs.Reading.{covarianceIn, startsIn, textLines, readTable, readOutcome, jobIn, readAs, readOf, covarianceLaid, startsLaid}
+use Rattle.reading.specs.Reading.{cellsIn, startsIn, textLines, readTable, readOutcome, jobIn, readAs, readOf, cellsLaid, startsLaid}
 use Rattle.reading.specs.Inner.{textSizeLines, TextRead}
 use Rattle.reading.specs.declared.Reading.{Reading}
 use Rattle.reading.specs.declared.Reading.the-variants as reading
-use Rattle.reading.proofs.Whole.{done-job, kept}
+use Rattle.reading.proofs.Table.{done-job, kept}
 
 -- what the sizes let through
 pub record Fits (bytes cells places : ℕ) : Type 0 where
@@ -64,14 +64,14 @@ module _ (text : List ℕ) (cells places : ℕ) where
 
   -- the three promises, where the call is refused with zeros in the buffers ..
   refused-laid : (r : Refusal) (a : List Float) (b : List ℕ) → readOutcome text cells places ≡ outcome.Refused r → a ≡ zeros cells → b ≡ noughts places
-      → (reading.Refused r ≡ readOf text cells places) × ((a ≡ covarianceLaid text cells places) × (b ≡ startsLaid text cells places))
-  unfolding readOf covarianceLaid startsLaid
+      → (reading.Refused r ≡ readOf text cells places) × ((a ≡ cellsLaid text cells places) × (b ≡ startsLaid text cells places))
+  unfolding readOf cellsLaid startsLaid
   refused-laid r a b e p q =
-      (rw e, (p ∙ laid-refused pz (readOutcome text cells places) r cells (covarianceIn text) e, q ∙ laid-refused 0 (readOutcome text cells places) r places (startsIn text) e))
+      (rw e, (p ∙ laid-refused pz (readOutcome text cells places) r cells (cellsIn text) e, q ∙ laid-refused 0 (readOutcome text cells places) r places (startsIn text) e))
 
   pub ends-small : (r : Refusal) (a : List Float) (b : List ℕ) (said : Outcome) → said ≡ first (textSizeLines (length text) cells places)
       → said ≡ outcome.Refused r → a ≡ zeros cells → b ≡ noughts places
-      → (reading.Refused r ≡ readOf text cells places) × ((a ≡ covarianceLaid text cells places) × (b ≡ startsLaid text cells places))
+      → (reading.Refused r ≡ readOf text cells places) × ((a ≡ cellsLaid text cells places) × (b ≡ startsLaid text cells places))
   ends-small r a b said e h p q = refused-laid r a b (outcome-refused r (sym e ∙ h)) p q
 
   -- .. and where the text was read
@@ -82,21 +82,21 @@ module _ (text : List ℕ) (cells places : ℕ) where
     read-is = outcome-sized (sym judged ∙ sized)
 
     pub ends-refused : (k : Refusal) (c : List Float) (d : List ℕ) → r ≡ reading.Refused k → c ≡ zeros cells → d ≡ noughts places
-        → (r ≡ readOf text cells places) × ((c ≡ covarianceLaid text cells places) × (d ≡ startsLaid text cells places))
+        → (r ≡ readOf text cells places) × ((c ≡ cellsLaid text cells places) × (d ≡ startsLaid text cells places))
     ends-refused k c d e p q =
         let o = refused-is (first (textLines text)) (jobIn text) k (λ h. kept text (done-job text h) h) (sym (is-read .told) ∙ e) in
         let l = refused-laid k c d (read-is ∙ o) p q in
         (e ∙ l .0, l .1)
 
     pub ends-done : ((k : Refusal) → r ≡ reading.Refused k → ⊥) → a ≡ zeros cells → b ≡ noughts places
-        → (r ≡ readOf text cells places) × ((a′ ≡ covarianceLaid text cells places) × (b′ ≡ startsLaid text cells places))
-    unfolding readOf covarianceLaid startsLaid
+        → (r ≡ readOf text cells places) × ((a′ ≡ cellsLaid text cells places) × (b′ ≡ startsLaid text cells places))
+    unfolding readOf cellsLaid startsLaid
     ends-done e p q =
         let o = done-is (first (textLines text)) (jobIn text) (λ k h. e k (is-read .told ∙ h)) in
-        let f = is-read .filled o in (
+        let f = is-read .held o in (
           is-read .told ∙ ap (λ (x : Outcome). readAs x (jobIn text)) (sym read-is),
           (
-            f .cells ∙ rw p (laid-done pz (readOutcome text cells places) cells (covarianceIn text) (read-is ∙ o)),
-            f .places ∙ rw q (laid-done 0 (readOutcome text cells places) places (startsIn text) (read-is ∙ o)),
+            f .filled ∙ rw p (laid-done pz (readOutcome text cells places) cells (cellsIn text) (read-is ∙ o)),
+            f .placed ∙ rw q (laid-done 0 (readOutcome text cells places) places (startsIn text) (read-is ∙ o)),
           ),
         )

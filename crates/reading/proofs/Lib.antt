@@ -1,7 +1,10 @@
-pub mod FirstLine
-pub mod Row
+pub mod Starts
+pub mod Front
+pub mod Walk
+pub mod Line
 pub mod Lines
-pub mod Room
+pub mod Table
+pub mod Blocks
 pub mod Whole
 pub mod Answer
 pub mod Accepted

@@ -1,213 +1,159 @@
--- The whole text: its tests, and the answer that they give. Assumes nothing.
-use Prim.Native.Nat.{ℕ, _+_, _-_, _<_, _≤_}
+-- The whole text: its first line and its block, and the answer that they give. Assumes nothing.
+use Prim.Native.Nat.{ℕ, _+_, _-_, _≤_}
 use mathlib.Core.Path.{_≡_, refl, sym, ap, _∙_}
-use mathlib.Core.Bool.{Bool, true, false, cond, not, _&&_, _||_, and-false}
-use mathlib.Core.List.{List, [], _∷_}
-use mathlib.Core.Logic.{⊎-elim}
+use mathlib.Core.Bool.{Bool, true, false, cond}
+use mathlib.Core.List.{List}
+use mathlib.Core.Logic.{_⊎_, inl, inr, ⊎-elim}
+use native.Mathlib.Nat.{sub-le}
 use native.Mathlib.Omega.{arith}
-use borrow.Author.Tests.{le-leb, lt-leb, eqb-true, ne-eqb, not-false}
-use lib.Dec.{eqb, leb}
-use lib.ListN.{length, take, drop, length-drop}
-use lib.Seq.{length-take-le}
+use lib.ListN.{length, take}
 use lib.Ieee.{Float}
 use Rattle.refusal.specs.Table.{first}
 use Rattle.refusal.specs.declared.Refusal.{Refusal}
-use Rattle.refusal.specs.declared.Refusal.the-variants.{UnknownDistance, UnknownLinkage, MalformedText}
-use Rattle.refusal.proofs.Tables.{done-refused, table-hit, table-pass, none}
+use Rattle.refusal.specs.declared.Refusal.the-variants.{OverLimit, MalformedText}
 use Rattle.refusal.specs.declared.Outcome.the-variants as outcome
+use Rattle.refusal.proofs.Tables.{done-refused}
 use Rattle.lent.proofs.Laws.{either}
-use Rattle.text.specs.Bytes.{bytes, isWord}
-use Rattle.fields.specs.Split.{split, piece, all}
-use Rattle.fields.proofs.Every.{both-left, four-yes}
-use Rattle.linkage.specs.Names.{distanceNamed, linkageNamed}
-use Rattle.linkage.specs.declared.Distance.the-variants.{Correlation, DistanceOfDistances}
-use Rattle.linkage.specs.declared.Linkage.the-variants.{Single, Complete, Average, Ward}
-use Rattle.linkage.specs.declared.NamedDistance.{NamedDistance}
-use Rattle.linkage.specs.declared.NamedLinkage.{NamedLinkage}
-use Rattle.linkage.specs.declared.NamedDistance.the-variants as distance
-use Rattle.linkage.specs.declared.NamedLinkage.the-variants as linkage
-use Rattle.reading.specs.Reading.{lines, rest, line, field, fieldsIn, assets, isHrp, isHcaa, isAsset, isJob, knownDistance, knownLinkage, distanceField, textLines, hrpRead, hcaaRead, jobIn, readAs}
-use Rattle.reading.specs.Inner.{headOf, isBody, Filled, TextRead}
+use Rattle.fields.specs.Split.{split, endOf}
+use Rattle.fields.proofs.Pieces.{pieces, piece-upto, cut-front}
+use Rattle.heading.specs.Heading.{isPriced, headOf}
+use Rattle.heading.specs.declared.Heading.{Heading}
+use Rattle.heading.specs.declared.Heading.the-variants as heading
+use Rattle.reading.specs.Reading.{lines, line, priced, rowsIn, assets, isBlock, isJob, startOf, isOver, textLines, jobOf, jobIn, readAs}
+use Rattle.reading.specs.Inner.{limited, blockOf, BlockRead, TextRead}
+use Rattle.reading.specs.declared.Block.{Block}
+use Rattle.reading.specs.declared.Block.the-variants as block
 use Rattle.reading.specs.declared.Reading.{Reading}
 use Rattle.reading.specs.declared.Reading.the-variants as reading
-use Rattle.reading.proofs.Lines.{lines-are, assets-are, body-at}
-use Rattle.reading.proofs.Room.{crowded}
+use Rattle.reading.proofs.Blocks.{pieces-le}
+use Rattle.reading.proofs.Table.{ends, job-refused, table-none, table-over, table-done, job-lineless, job-blockless, asked-refused, asked-job}
 
--- ---- names that are not known are refused as such
+-- ---- a job, and the limits
 
-pub distance-refused : (w : List ℕ) (r : Refusal) → distanceNamed w ≡ distance.Refused r → r ≡ UnknownDistance
-unfolding distanceNamed
-distance-refused w r e = go (isWord w (bytes "correlation")) (isWord w (bytes "distance_of_distances")) e
+pub limited-refused : (over : Bool) (j : Reading) (r : Refusal) → j ≡ reading.Refused r → limited over j ≡ reading.Refused r
+limited-refused over j r e = rw e
+
+pub limited-known : (over t : Bool) (j : Reading) → over ≡ t → ((r : Refusal) → j ≡ reading.Refused r → ⊥) → limited over j ≡ cond t (reading.Refused OverLimit) j
+limited-known over t (reading.Refused r) o h = absurd (h r refl)
+limited-known over t (reading.Hrp n rows p d) o h = rw o
+limited-known over t (reading.Hcaa n rows p l d) o h = rw o
+
+-- or it is refused already
+refused-or : (j : Reading) → ((r : Refusal) × (j ≡ reading.Refused r)) ⊎ ((r : Refusal) → j ≡ reading.Refused r → ⊥)
+refused-or (reading.Refused r) = inl (r, refl)
+refused-or (reading.Hrp n rows p d) = inr (λ r e. let z : _≡_ {A = ℕ} 0 1 = cc in omega arith)
+refused-or (reading.Hcaa n rows p l d) = inr (λ r e. let z : _≡_ {A = ℕ} 0 1 = cc in omega arith)
+
+-- the first line, as the code cuts it out, and where the next begins
+pub line-cut : (text : List ℕ) (e : ℕ) → e ≡ endOf 10 text 0 → take e text ≡ line text 0
+line-cut text e ends = ap (λ (k : ℕ). take k text) ends ∙ cut-front 10 text ∙ sym (piece-upto 10 text)
+
+pub second-begins : (text : List ℕ) (e : ℕ) → e ≡ endOf 10 text 0 → e + 1 ≡ startOf 10 text 1
+unfolding startOf
+second-begins text e ends = ap (λ (k : ℕ). k + 1) ends
+
+pub priced-is : (text l : List ℕ) (t : Bool) → t ≡ isPriced l → l ≡ line text 0 → t ≡ priced text
+unfolding priced
+priced-is text l t e q = e ∙ ap isPriced q
+
+pub cut-is : (text : List ℕ) (count : ℕ) → count ≡ length (split 10 text) - 1 → length (split 10 text) ≡ count + 1
+cut-is text count e = let p = pieces 10 text in omega arith
+
+-- ---- the block, by what was read
+
+-- no more lines than bytes
+rows-le : (text : List ℕ) → rowsIn text ≤ length text
+unfolding rowsIn
+rows-le text = omega (arith, ends text, pieces-le 10 text, sub-le (length (lines text)) (cond (priced text) 2 1))
+
+no-block : (text : List ℕ) → block.Malformed ≡ blockOf text → isBlock text ≡ false
+unfolding blockOf
+no-block text e = go (isBlock text) e
   where
-    go : (a b : Bool) → cond a (distance.Of Correlation) (cond b (distance.Of DistanceOfDistances) (distance.Refused UnknownDistance)) ≡ distance.Refused r → r ≡ UnknownDistance
-    go true b h = absurd (let z : _≡_ {A = ℕ} 0 1 = cc in omega arith)
-    go false true h = absurd (let z : _≡_ {A = ℕ} 0 1 = cc in omega arith)
-    go false false h = cc
+    go : (t : Bool) → block.Malformed ≡ cond t (block.Of (assets text) (rowsIn text)) block.Malformed → t ≡ false
+    go true q = absurd (let z : _≡_ {A = ℕ} 0 1 = cc in omega arith)
+    go false q = refl
 
-pub linkage-refused : (w : List ℕ) (r : Refusal) → linkageNamed w ≡ linkage.Refused r → r ≡ UnknownLinkage
-unfolding linkageNamed
-linkage-refused w r e = go (isWord w (bytes "single")) (isWord w (bytes "complete")) (isWord w (bytes "average")) (isWord w (bytes "ward")) e
+some-block : (text : List ℕ) (n rows : ℕ) → block.Of n rows ≡ blockOf text → (isBlock text ≡ true) × ((n ≡ assets text) × (rows ≡ rowsIn text))
+unfolding blockOf
+some-block text n rows e = go (isBlock text) e
   where
-    go : (a b c d : Bool) → cond a (linkage.Of Single) (cond b (linkage.Of Complete) (cond c (linkage.Of Average) (cond d (linkage.Of Ward) (linkage.Refused UnknownLinkage)))) ≡ linkage.Refused r
-        → r ≡ UnknownLinkage
-    go true b c d h = absurd (let z : _≡_ {A = ℕ} 0 1 = cc in omega arith)
-    go false true c d h = absurd (let z : _≡_ {A = ℕ} 0 1 = cc in omega arith)
-    go false false true d h = absurd (let z : _≡_ {A = ℕ} 0 1 = cc in omega arith)
-    go false false false true h = absurd (let z : _≡_ {A = ℕ} 0 1 = cc in omega arith)
-    go false false false false h = cc
+    go : (t : Bool) → block.Of n rows ≡ cond t (block.Of (assets text) (rowsIn text)) block.Malformed → (t ≡ true) × ((n ≡ assets text) × (rows ≡ rowsIn text))
+    go true q = (refl, (cc, cc))
+    go false q = absurd (let z : _≡_ {A = ℕ} 0 1 = cc in omega arith)
 
--- ---- the first line's job, as the table has it: "8, 7"
+-- ---- a text refused, by its table
 
-hrp-told : (n : ℕ) (x : NamedDistance) → ((r : Refusal) → x ≡ distance.Refused r → r ≡ UnknownDistance)
-    → hrpRead n x ≡ readAs (first ((not (knownDistance x), UnknownDistance) ∷ [])) (hrpRead n x)
-unfolding first
-hrp-told n (distance.Of d) h = refl
-hrp-told n (distance.Refused r) h = ap reading.Refused (h r refl)
+module _ (text : List ℕ) (cells : List Float) (starts : List ℕ) (cells′ : List Float) (starts′ : List ℕ) where
+  refused-so : (r : Refusal) → first (textLines text) ≡ outcome.Refused r → TextRead text (reading.Refused r) cells starts cells′ starts′
+  refused-so r f = record { told = ap (λ o. readAs o (jobIn text)) (sym f); held = λ d. absurd (done-refused r (sym d ∙ f)) }
 
-hcaa-told : (n : ℕ) (a : NamedLinkage) (x : NamedDistance)
-    → ((r : Refusal) → a ≡ linkage.Refused r → r ≡ UnknownLinkage)
-    → ((r : Refusal) → x ≡ distance.Refused r → r ≡ UnknownDistance)
-    → hcaaRead n a x ≡ readAs (first ((not (knownLinkage a), UnknownLinkage) ∷ (not (knownDistance x), UnknownDistance) ∷ [])) (hcaaRead n a x)
-unfolding first
-hcaa-told n (linkage.Of l) (distance.Of d) g h = refl
-hcaa-told n (linkage.Of l) (distance.Refused r) g h = ap reading.Refused (h r refl)
-hcaa-told n (linkage.Refused r) x g h = ap reading.Refused (g r refl)
+  pub text-lineless : (count : ℕ) → count ≡ length (split 10 text) - 1 → count ≤ 0 → TextRead text (reading.Refused MalformedText) cells starts cells′ starts′
+  text-lineless count e h = refused-so MalformedText (table-none text (job-lineless text (omega arith)))
 
-hrp-kept : (n : ℕ) (x : NamedDistance) (k : Refusal) → not (knownDistance x) ≡ false → hrpRead n x ≡ reading.Refused k → ⊥
-hrp-kept n (distance.Of d) k t e = let z : _≡_ {A = ℕ} 0 1 = cc in omega arith
-hrp-kept n (distance.Refused r) k t e = let z : _≡_ {A = ℕ} 0 1 = cc in omega arith
+  -- ---- by the block that was read
 
-hcaa-kept : (n : ℕ) (a : NamedLinkage) (x : NamedDistance) (k : Refusal) → not (knownLinkage a) ≡ false → not (knownDistance x) ≡ false → hcaaRead n a x ≡ reading.Refused k → ⊥
-hcaa-kept n (linkage.Of l) (distance.Of d) k s t e = let z : _≡_ {A = ℕ} 0 1 = cc in omega arith
-hcaa-kept n (linkage.Of l) (distance.Refused r) k s t e = let z : _≡_ {A = ℕ} 0 1 = cc in omega arith
-hcaa-kept n (linkage.Refused r) x k s t e = let z : _≡_ {A = ℕ} 0 1 = cc in omega arith
+  module _ (b : Block) (was : BlockRead text b cells starts cells′ starts′) where
+    pub text-blockless : b ≡ block.Malformed → TextRead text (reading.Refused MalformedText) cells starts cells′ starts′
+    text-blockless e = refused-so MalformedText (table-none text (job-blockless text (no-block text (sym e ∙ was .told))))
 
--- a line has not both 2 and 5 fields
-hrp-not-hcaa : (l : List ℕ) → isHrp l ≡ true → isHcaa l ≡ false
-unfolding isHrp isHcaa
-hrp-not-hcaa l e =
-    let h : fieldsIn l ≡ 2 = eqb-true (fieldsIn l) 2 (both-left (eqb (fieldsIn l) 2) _ e) in
-    rw (ne-eqb (fieldsIn l) 5 (λ q. omega arith))
+    -- a block of rows of n assets, and what the first line asks for
+    module _ (n rows : ℕ) (is : b ≡ block.Of n rows) (some : 1 ≤ length (split 10 text) - 1)
+        (asked : Heading) (head : asked ≡ headOf (line text 0)) (p : Bool) (kind : p ≡ priced text) where
+      good : (isBlock text ≡ true) × ((n ≡ assets text) × (rows ≡ rowsIn text))
+      good = some-block text n rows (sym is ∙ was .told)
 
--- ---- the tests of the text
+      job : Reading
+      job = jobOf n rows p asked
 
--- the pieces, by a count of the newlines
-pub cut-is : (text : List ℕ) (ends : ℕ) → ends ≡ length (split 10 text) - 1 → 1 ≤ ends → length (split 10 text) ≡ ends - 1 + 2
-cut-is text ends e h = omega arith
+      job-is : job ≡ jobIn text
+      unfolding jobIn job
+      job-is =
+          ap (λ (k : ℕ). jobOf k rows p asked) (good .1 .0)
+          ∙ ap (λ (k : ℕ). jobOf (assets text) k p asked) (good .1 .1)
+          ∙ ap (λ (t : Bool). jobOf (assets text) (rowsIn text) t asked) kind
+          ∙ ap (jobOf (assets text) (rowsIn text) (priced text)) head
 
-pub or-right : (a b : Bool) → a ≡ false → (a || b) ≡ true → b ≡ true
-or-right true b h e = absurd (let z : _≡_ {A = ℕ} 0 1 = cc in omega arith)
-or-right false b h e = e
+      pub rows-short : length text ≤ 65536 → rows ≤ 65536
+      rows-short h = omega (arith, good .1 .1, rows-le text)
 
-or-none : (a b : Bool) → (a || b) ≡ false → (a ≡ false) × (b ≡ false)
-or-none true b e = absurd (let z : _≡_ {A = ℕ} 0 1 = cc in omega arith)
-or-none false b e = (refl, e)
+      over-is : isOver rows n ≡ isOver (rowsIn text) (assets text)
+      over-is = ap (λ (k : ℕ). isOver rows k) (good .1 .0) ∙ ap (λ (k : ℕ). isOver k (assets text)) (good .1 .1)
 
-module _ (text : List ℕ) where
-  pub job-lineless : length (split 10 text) - 1 < 1 → isJob text ≡ false
-  unfolding isJob
-  job-lineless h =
-      let k = length (split 10 text) - 1 in
-      let e : length (take k (split 10 text)) ≡ k = length-take-le k (split 10 text) (omega arith) in
-      rw (e, lt-leb 1 k h) (and-false (eqb (length (rest text)) 0))
+      told-refused : (r : Refusal) → job ≡ reading.Refused r → first (textLines text) ≡ outcome.Refused r
+      unfolding job
+      told-refused r e = asked-refused text some (good .0) r (sym head ∙ job-refused n rows p asked r e)
 
-  pub job-unlined : isBody text ≡ false → isJob text ≡ false
-  unfolding isJob isBody
-  job-unlined e = go (eqb (length (rest text)) 0) (leb 1 (length (lines text))) (isHrp (line text 0) || isHcaa (line text 0)) (all (isAsset (assets text)) (drop 1 (lines text))) e
-    where
-      go : (a b c d : Bool) → (a && d) ≡ false → (a && (b && (c && d))) ≡ false
-      go true b c true h = absurd (let z : _≡_ {A = ℕ} 0 1 = cc in omega arith)
-      go true true true false h = refl
-      go true true false false h = refl
-      go true false c false h = refl
-      go false b c d h = refl
+      module _ (known : (r : Refusal) → job ≡ reading.Refused r → ⊥) where
+        head-known : (r : Refusal) → headOf (line text 0) ≡ heading.Refused r → ⊥
+        unfolding job
+        head-known r e = known r (ap (jobOf n rows p) (head ∙ e))
 
-  pub job-lined : (n : ℕ) → length (split 10 text) ≡ n + 2 → isBody text ≡ true → isJob text ≡ (isHrp (line text 0) || isHcaa (line text 0))
-  unfolding isJob isBody
-  job-lined n cut e =
-      let k = length (split 10 text) - 1 in
-      let l : length (take k (split 10 text)) ≡ k = length-take-le k (split 10 text) (omega arith) in
-      let m : leb 1 (length (lines text)) ≡ true = le-leb 1 (length (lines text)) (omega arith) in
-      go (eqb (length (rest text)) 0) (leb 1 (length (lines text))) (isHrp (line text 0) || isHcaa (line text 0)) (all (isAsset (assets text)) (drop 1 (lines text))) m e
-    where
-      go : (a b c d : Bool) → b ≡ true → (a && d) ≡ true → (a && (b && (c && d))) ≡ c
-      go true true true true h e = refl
-      go true true false d h e = refl
-      go true true true false h e = absurd (let z : _≡_ {A = ℕ} 0 1 = cc in omega arith)
-      go true false c d h e = absurd (let z : _≡_ {A = ℕ} 0 1 = cc in omega arith)
-      go false b c d h e = absurd (let z : _≡_ {A = ℕ} 0 1 = cc in omega arith)
+        is-job : isJob text ≡ true
+        is-job = asked-job text some (good .0) head-known
 
-  -- more than 64 asset lines
-  pub body-crowded : (n : ℕ) → length (split 10 text) ≡ n + 2 → length text ≤ 65536 → 64 < n → isBody text ≡ false
-  body-crowded n cut t h =
-      let l = lines-are text n cut in
-      let d = length-drop 1 (take (n + 1) (split 10 text)) in
-      body-at text n cut ∙ rw (crowded text (n + 1) n t (omega arith) h) (and-false (eqb (length (piece 10 text (n + 1))) 0))
+        told-over : isOver rows n ≡ true → first (textLines text) ≡ outcome.Refused OverLimit
+        told-over o = table-over text is-job head-known (sym over-is ∙ o)
 
-  -- ---- the answer
+        told-done : isOver rows n ≡ false → first (textLines text) ≡ outcome.Done
+        told-done o = table-done text is-job head-known (sym over-is ∙ o)
 
-  pub text-bad : (a : List Float) (b : List ℕ) (a′ : List Float) (b′ : List ℕ) → isJob text ≡ false → TextRead text (reading.Refused MalformedText) a b a′ b′
-  unfolding textLines
-  text-bad a b a′ b′ e =
-      let f : first (textLines text) ≡ outcome.Refused MalformedText = table-hit (not (isJob text)) MalformedText _ (ap not e) in
-      record { told = rw f; filled = λ d. absurd (done-refused _ (sym d ∙ f)) }
-
-  -- the table of a job's text, by its first line
-  module _ (job : isJob text ≡ true) where
-    lines-hrp : isHrp (line text 0) ≡ true → first (textLines text) ≡ first ((not (knownDistance (distanceNamed (field (line text 0) 1))), UnknownDistance) ∷ [])
-    unfolding textLines distanceField
-    lines-hrp e = table-pass _ MalformedText _ (ap not job) ∙ table-pass _ UnknownLinkage _ (rw (hrp-not-hcaa (line text 0) e)) ∙ rw e
-
-    lines-hcaa : isHrp (line text 0) ≡ false → isHcaa (line text 0) ≡ true
-        → first (textLines text)
-        ≡ first ((not (knownLinkage (linkageNamed (field (line text 0) 2))), UnknownLinkage) ∷ (not (knownDistance (distanceNamed (field (line text 0) 3))), UnknownDistance) ∷ [])
-    unfolding textLines distanceField
-    lines-hcaa e f = table-pass _ MalformedText _ (ap not job) ∙ rw (e, f)
-
-    told-hrp : isHrp (line text 0) ≡ true → headOf (assets text) (line text 0) ≡ readAs (first (textLines text)) (jobIn text)
-    unfolding headOf jobIn
-    told-hrp e = rw (lines-hrp e, e) (hrp-told (assets text) (distanceNamed (field (line text 0) 1)) (distance-refused (field (line text 0) 1)))
-
-    told-hcaa : isHrp (line text 0) ≡ false → isHcaa (line text 0) ≡ true → headOf (assets text) (line text 0) ≡ readAs (first (textLines text)) (jobIn text)
-    unfolding headOf jobIn
-    told-hcaa e f =
-        let a = field (line text 0) 2 in
-        let b = field (line text 0) 3 in
-        rw (lines-hcaa e f, e, f) (hcaa-told (assets text) (linkageNamed a) (distanceNamed b) (linkage-refused a) (distance-refused b))
-
-    -- the first line is one or the other
-    pub first-line : (isHrp (line text 0) || isHcaa (line text 0)) ≡ true
-    unfolding isJob
-    first-line = four-yes (eqb (length (rest text)) 0) (leb 1 (length (lines text))) (isHrp (line text 0) || isHcaa (line text 0)) (all (isAsset (assets text)) (drop 1 (lines text))) job .2
-
-    told : headOf (assets text) (line text 0) ≡ readAs (first (textLines text)) (jobIn text)
-    told = ⊎-elim told-hrp (λ e. told-hcaa e (or-right (isHrp (line text 0)) (isHcaa (line text 0)) e first-line)) (either (isHrp (line text 0)))
-
-    pub kept : first (textLines text) ≡ outcome.Done → (k : Refusal) → jobIn text ≡ reading.Refused k → ⊥
-    unfolding jobIn
-    kept d k j =
-        ⊎-elim
-        (λ e. hrp-kept (assets text) (distanceNamed (field (line text 0) 1)) k (none _ (sym (lines-hrp e) ∙ d) .0) (rw e at j))
-        (λ e.
-        let t = none _ (sym (lines-hcaa e (or-right (isHrp (line text 0)) (isHcaa (line text 0)) e first-line)) ∙ d) in
-        hcaa-kept (assets text) (linkageNamed (field (line text 0) 2)) (distanceNamed (field (line text 0) 3)) k (t .0) (t .1 .0) (rw e at j))
-        (either (isHrp (line text 0)))
-
-  -- a text whose table is done is a job's
-  pub done-job : first (textLines text) ≡ outcome.Done → isJob text ≡ true
-  unfolding textLines
-  done-job d = not-false (isJob text) (none _ d .0)
-
-  module _ (n : ℕ) (cut : length (split 10 text) ≡ n + 2) (body : isBody text ≡ true) where
-    none-told : isJob text ≡ false → headOf (assets text) (line text 0) ≡ readAs (first (textLines text)) (jobIn text)
-    unfolding headOf
-    none-told e =
-        let f = or-none (isHrp (line text 0)) (isHcaa (line text 0)) (sym (job-lined n cut body) ∙ e) in
-        rw (f .0, f .1) (text-bad [] [] [] [] e .told)
-
-    head-told : headOf n (line text 0) ≡ readAs (first (textLines text)) (jobIn text)
-    head-told = ap (λ (k : ℕ). headOf k (line text 0)) (sym (assets-are text n cut)) ∙ ⊎-elim told none-told (either (isJob text))
-
-    pub text-good : (said : Reading) (a : List Float) (b : List ℕ) (a′ : List Float) (b′ : List ℕ) → said ≡ headOf n (line text 0) → Filled text a b a′ b′
-        → TextRead text said a b a′ b′
-    text-good said a b a′ b′ e f = record { told = e ∙ head-told; filled = λ d. f }
+      pub text-judged : (said : Reading) → said ≡ limited (isOver rows n) (jobOf n rows p asked) → TextRead text said cells starts cells′ starts′
+      unfolding job
+      text-judged said is-said =
+          ⊎-elim
+          (λ h. answered (reading.Refused (h .0)) (is-said ∙ limited-refused (isOver rows n) job (h .0) (h .1)) (refused-so (h .0) (told-refused (h .0) (h .1))))
+          (λ known.
+          ⊎-elim
+          (λ o. answered (reading.Refused OverLimit) (is-said ∙ limited-known (isOver rows n) true job o known) (refused-so OverLimit (told-over known o)))
+          (λ o.
+          let f = told-done known o in
+          record {
+            told = is-said ∙ limited-known (isOver rows n) false job o known ∙ job-is ∙ ap (λ o′. readAs o′ (jobIn text)) (sym f);
+            held = λ d. was .held (good .0) (sym over-is ∙ o);
+          })
+          (either (isOver rows n)))
+          (refused-or job)
+        where
+          answered : (r : Reading) → said ≡ r → TextRead text r cells starts cells′ starts′ → TextRead text said cells starts cells′ starts′
+          answered r e t = record { told = e ∙ t .told; held = t .held }

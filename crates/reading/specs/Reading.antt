@@ -1,6 +1,6 @@
--- Document 01, "Millionths and the job program": what a job text says. Lines, fields, cells. Definitions only.
-use Prim.Native.Nat.{ℕ, zero, suc, _+_, _-_}
-use mathlib.Core.Bool.{Bool, true, false, not, cond, _&&_, _||_}
+-- Document 01, "Millionths and the job program": what a job text says. Document 02, request 8: decimals, and a prices block in place of the covariance. Definitions only.
+use Prim.Native.Nat.{ℕ, zero, suc, _+_, _-_, _*_}
+use mathlib.Core.Bool.{Bool, not, cond, _&&_, _||_}
 use mathlib.Core.List.{List, [], _∷_, _++_}
 use lib.Dec.{leb, ltb, eqb}
 use lib.ListN.{length, take, drop}
@@ -8,29 +8,21 @@ use lib.Ieee.{Float}
 use Rattle.arithmetic.specs.Constants.{pz}
 use Rattle.refusal.specs.Table.{Line, first}
 use Rattle.refusal.specs.Telling.{Telling, accepts, refuses}
-use Rattle.refusal.specs.declared.Refusal.the-variants.{UnknownDistance, UnknownLinkage, OverLimit, ShortBuffer, MalformedText}
+use Rattle.refusal.specs.declared.Refusal.the-variants.{OverLimit, ShortBuffer, MalformedText}
 use Rattle.refusal.specs.declared.Outcome.{Outcome}
 use Rattle.refusal.specs.declared.Outcome.the-variants as outcome
 use Rattle.lent.specs.Grid.{grid, tab}
 use Rattle.lent.specs.Lent.{most-assets, most-cells, laid}
-use Rattle.text.specs.Bytes.{bytes, same}
-use Rattle.fields.specs.Split.{newline, tabulator, firstPiece, split, piece, endOf, all}
-use Rattle.fields.specs.Numerals.{isCell, cellOf, numeralRead}
-use Rattle.fields.specs.declared.Numeral.{Numeral}
-use Rattle.fields.specs.declared.Numeral.the-variants as numeral
-use Rattle.linkage.specs.Names.{distanceNamed, linkageNamed}
-use Rattle.linkage.specs.declared.Distance.{Distance}
-use Rattle.linkage.specs.declared.Linkage.{Linkage}
-use Rattle.linkage.specs.declared.NamedDistance.{NamedDistance}
-use Rattle.linkage.specs.declared.NamedDistance.the-variants as distance
-use Rattle.linkage.specs.declared.NamedLinkage.{NamedLinkage}
-use Rattle.linkage.specs.declared.NamedLinkage.the-variants as linkage
-use Rattle.reading.specs.declared.Asked.{Asked}
-use Rattle.reading.specs.declared.Asked.the-variants as asked
+use Rattle.fields.specs.Split.{newline, tabulator, split, piece, endOf, all}
+use Rattle.decimals.specs.Decimal.{isCell, cellOf}
+use Rattle.names.specs.Names.{isName}
+use Rattle.heading.specs.Heading.{field, fieldsIn, isHrp, isHcaa, isPriced, unknownLines, headOf}
+use Rattle.heading.specs.declared.Heading.{Heading}
+use Rattle.heading.specs.declared.Heading.the-variants as heading
 use Rattle.reading.specs.declared.Reading.{Reading}
 use Rattle.reading.specs.declared.Reading.the-variants as reading
 
--- ---- lines and fields
+-- ---- lines
 
 -- "lines ended by a newline": the pieces that a newline ends. What stands after the last newline is no line
 abbrev pub lines : List ℕ → List (List ℕ)
@@ -44,127 +36,101 @@ rest text = piece newline text (length (split newline text) - 1)
 abbrev pub line : List ℕ → ℕ → List ℕ
 line text i = piece newline text i
 
--- "fields parted by tabs": field k of a line, counted from 0
-abbrev pub field : List ℕ → ℕ → List ℕ
-field l k = piece tabulator l k
+-- ---- the two blocks: "Then per asset" a line; or "a new prices block in place of the covariance: .. a line of names, then one line of cells for each day"
 
-abbrev pub fieldsIn : List ℕ → ℕ
-fieldsIn l = length (split tabulator l)
+unfoldable pub priced : List ℕ → Bool
+unfolding split isPriced
+priced text = isPriced (line text 0)
 
--- "Then per asset": a line for each after the first
-abbrev pub assets : List ℕ → ℕ
-assets text = length (lines text) - 1
+-- the lines with cells: all but the first, and "a line of names"
+unfoldable pub rowsIn : List ℕ → ℕ
+unfolding split priced
+rowsIn text = length (lines text) - cond (priced text) 2 1
 
--- ---- "First line: `hrp` and distance; or `hcaa`, metric, linkage, distance, clusters (1 to 9 digits, or `-` for all)."
+-- the assets: as many as there are names, or lines
+unfoldable pub assets : List ℕ → ℕ
+unfolding split priced rowsIn
+assets text = cond (priced text) (fieldsIn (line text 1)) (rowsIn text)
 
-abbrev pub askedBy : Numeral → Asked
-askedBy (numeral.Of k) = asked.Count k
-askedBy numeral.Malformed = asked.Malformed
+-- n cells
+unfoldable pub isRow : ℕ → List (List ℕ) → Bool
+unfolding all isCell
+isRow n ws = eqb (length ws) n && all isCell ws
 
-unfoldable pub clustersOf : List ℕ → Asked
-unfolding same
-clustersOf w = cond (same w (bytes "-")) asked.All (askedBy (numeralRead w))
-
-abbrev pub wellAsked : Asked → Bool
-wellAsked asked.Malformed = false
-wellAsked asked.All = true
-wellAsked (asked.Count k) = true
-
--- what is asked for, or 15
-unfoldable pub askedOutcome : List ℕ → Outcome
-unfolding clustersOf
-askedOutcome w = first ((not (wellAsked (clustersOf w)), MalformedText) ∷ [])
-
-abbrev pub askedTells : Asked → Telling Asked
-askedTells asked.Malformed = refuses MalformedText
-askedTells asked.All = accepts asked.All
-askedTells (asked.Count k) = accepts (asked.Count k)
-
-unfoldable pub isHrp : List ℕ → Bool
-unfolding split same
-isHrp l = eqb (fieldsIn l) 2 && same (field l 0) (bytes "hrp")
-
-unfoldable pub isHcaa : List ℕ → Bool
-unfolding split same clustersOf
-isHcaa l = eqb (fieldsIn l) 5 && (same (field l 0) (bytes "hcaa") && wellAsked (clustersOf (field l 4)))
-
--- ---- "a name of 1 to 16 bytes 21 to 7e hex, not `order` or `refused`, and its covariance row, each cell 16 lower-case hex digits"
-
-abbrev pub inName : ℕ → Bool
-inName b = leb 0x21 b && leb b 0x7e
-
-unfoldable pub isName : List ℕ → Bool
-unfolding all same
-isName w =
-    leb 1 (length w)
-    && (leb (length w) 16
-    && (all inName w
-    && (not (same w (bytes "order")) && not (same w (bytes "refused")))))
-
--- a line of one of n assets
+-- a line of one of n assets: "a name .. and its covariance row"
 unfoldable pub isAsset : ℕ → List ℕ → Bool
-unfolding split all isName isCell
-isAsset n l = eqb (fieldsIn l) (n + 1) && (isName (field l 0) && all isCell (drop 1 (split tabulator l)))
+unfolding split isName isRow
+isAsset n l = isName (field l 0) && isRow n (drop 1 (split tabulator l))
 
--- a job text: every line ends, there is a first line, and the others are the assets' lines
+-- "one line of cells for each day", of n assets
+unfoldable pub isDay : ℕ → List ℕ → Bool
+unfolding split isRow
+isDay n l = isRow n (split tabulator l)
+
+-- "a line of names"
+unfoldable pub isNames : List ℕ → Bool
+unfolding split all isName
+isNames l = all isName (split tabulator l)
+
+unfoldable pub isCovariance : List ℕ → Bool
+unfolding split all isAsset assets
+isCovariance text = all (isAsset (assets text)) (drop 1 (lines text))
+
+unfoldable pub isPrices : List ℕ → Bool
+unfolding split all isNames isDay assets
+isPrices text = leb 2 (length (lines text)) && (isNames (line text 1) && all (isDay (assets text)) (drop 2 (lines text)))
+
+-- what stands after the first line: a block, and nothing after its last line
+unfoldable pub isBlock : List ℕ → Bool
+unfolding split priced isCovariance isPrices
+isBlock text = eqb (length (rest text)) 0 && cond (priced text) (isPrices text) (isCovariance text)
+
+-- a job text: a first line, and its block
 unfoldable pub isJob : List ℕ → Bool
-unfolding split all isAsset isHrp isHcaa
-isJob text =
-    eqb (length (rest text)) 0
-    && (leb 1 (length (lines text))
-    && ((isHrp (line text 0) || isHcaa (line text 0))
-    && all (isAsset (assets text)) (drop 1 (lines text))))
+unfolding split isHrp isHcaa isBlock
+isJob text = leb 1 (length (lines text)) && ((isHrp (line text 0) || isHcaa (line text 0)) && isBlock text)
 
--- cell (i, j) of the covariance is field j + 1 of line i + 1
+-- cell (i, j): field j of day i's line, which is line i + 2; or field j + 1 of asset i's, which is line i + 1
 unfoldable pub textCell : List ℕ → ℕ → ℕ → Float
-unfolding split
-textCell text i j = cellOf (field (line text (i + 1)) (j + 1))
+unfolding split priced cellOf
+textCell text i j = cond (priced text) (cellOf (field (line text (i + 2)) j)) (cellOf (field (line text (i + 1)) (j + 1)))
 
-unfoldable pub covarianceIn : List ℕ → List Float
-unfolding textCell
-covarianceIn text = grid (assets text) (assets text) (textCell text)
+unfoldable pub cellsIn : List ℕ → List Float
+unfolding rowsIn assets textCell
+cellsIn text = grid (rowsIn text) (assets text) (textCell text)
 
+-- asset i's name: field i of the line of names, or the first of its own line
 unfoldable pub nameOf : List ℕ → ℕ → List ℕ
-unfolding split
-nameOf text i = field (line text (i + 1)) 0
+unfolding split priced
+nameOf text i = cond (priced text) (field (line text 1) i) (field (line text (i + 1)) 0)
 
--- the same by the place where its line begins: what stands from there to the first tab or the line's end
-abbrev pub nameFrom : List ℕ → ℕ → List ℕ
-nameFrom text start = firstPiece tabulator (firstPiece newline (drop start text))
-
--- where line k begins
-unfoldable pub startOf : List ℕ → ℕ → ℕ
+-- where piece k begins
+unfoldable pub startOf : ℕ → List ℕ → ℕ → ℕ
 unfolding endOf
-startOf text zero = 0
-startOf text (suc k) = endOf newline text (startOf text k) + 1
+startOf d s zero = 0
+startOf d s (suc k) = endOf d s (startOf d s k) + 1
 
--- where the assets' lines begin, each with its name
+-- where asset i's name begins
+unfoldable pub nameStart : List ℕ → ℕ → ℕ
+unfolding split priced startOf
+nameStart text i = cond (priced text) (startOf newline text 1 + startOf tabulator (line text 1) i) (startOf newline text (i + 1))
+
 unfoldable pub startsIn : List ℕ → List ℕ
-unfolding startOf
-startsIn text = tab (assets text) (λ i. startOf text (i + 1))
+unfolding assets nameStart
+startsIn text = tab (assets text) (nameStart text)
 
--- ---- refusals: "Order: 9, 15, 8, 7", with the lent buffers' 11 after the 9
+-- ---- refusals: "Order: 9, 15, 8, 7", with the lent buffers' 11 after the 9; "then as before, the allocator's 9 for over 64 assets or 4,096 cells"
 
-abbrev pub knownDistance : NamedDistance → Bool
-knownDistance (distance.Of d) = true
-knownDistance (distance.Refused r) = false
-
-abbrev pub knownLinkage : NamedLinkage → Bool
-knownLinkage (linkage.Of l) = true
-knownLinkage (linkage.Refused r) = false
-
--- the distance is the second field of an `hrp` line and the fourth of an `hcaa` line
-unfoldable pub distanceField : List ℕ → List ℕ
-unfolding isHrp split
-distanceField l = cond (isHrp l) (field l 1) (field l 3)
+-- rows of n cells are more than an allocator takes
+unfoldable pub isOver : ℕ → ℕ → Bool
+isOver rows n = ltb most-assets n || ltb most-cells (rows * n)
 
 unfoldable pub textLines : List ℕ → List Line
-unfolding isJob isHrp isHcaa distanceField distanceNamed linkageNamed
+unfolding isJob split unknownLines rowsIn assets isOver
 textLines text =
     (not (isJob text), MalformedText)
-    ∷ (isHcaa (line text 0) && not (knownLinkage (linkageNamed (field (line text 0) 2))), UnknownLinkage)
-    ∷ (not (knownDistance (distanceNamed (distanceField (line text 0)))), UnknownDistance)
-    ∷ []
+    ∷ (unknownLines (line text 0)
+    ++ ((isOver (rowsIn text) (assets text), OverLimit) ∷ []))
 
 -- "Text of at most 65,536 bytes (else 9)"
 abbrev pub most-bytes : ℕ
@@ -185,21 +151,15 @@ readOutcome text cells starts = first (readTable text cells starts)
 
 -- ---- the answer
 
-abbrev pub hrpRead : ℕ → NamedDistance → Reading
-hrpRead n (distance.Of d) = reading.Hrp n d
-hrpRead n (distance.Refused r) = reading.Refused r
-
-abbrev pub hcaaRead : ℕ → NamedLinkage → NamedDistance → Reading
-hcaaRead n (linkage.Of l) (distance.Of d) = reading.Hcaa n l d
-hcaaRead n (linkage.Of l) (distance.Refused r) = reading.Refused r
-hcaaRead n (linkage.Refused r) d = reading.Refused r
+-- what a first line asks for, of rows of n cells that are prices or not
+abbrev pub jobOf : ℕ → ℕ → Bool → Heading → Reading
+jobOf n rows p (heading.Refused r) = reading.Refused r
+jobOf n rows p (heading.Hrp d) = reading.Hrp n rows p d
+jobOf n rows p (heading.Hcaa l d) = reading.Hcaa n rows p l d
 
 unfoldable pub jobIn : List ℕ → Reading
-unfolding isHrp split distanceNamed linkageNamed
-jobIn text =
-    cond (isHrp (line text 0))
-    (hrpRead (assets text) (distanceNamed (field (line text 0) 1)))
-    (hcaaRead (assets text) (linkageNamed (field (line text 0) 2)) (distanceNamed (field (line text 0) 3)))
+unfolding split headOf assets rowsIn priced
+jobIn text = jobOf (assets text) (rowsIn text) (priced text) (headOf (line text 0))
 
 abbrev pub readAs : Outcome → Reading → Reading
 readAs outcome.Done r = r
@@ -212,13 +172,13 @@ readOf text cells starts = readAs (readOutcome text cells starts) (jobIn text)
 -- what the answer tells: 0 and the job, or the refusal's number
 abbrev pub readingTells : Reading → Telling Reading
 readingTells (reading.Refused r) = refuses r
-readingTells (reading.Hrp n d) = accepts (reading.Hrp n d)
-readingTells (reading.Hcaa n l d) = accepts (reading.Hcaa n l d)
+readingTells (reading.Hrp n rows p d) = accepts (reading.Hrp n rows p d)
+readingTells (reading.Hcaa n rows p l d) = accepts (reading.Hcaa n rows p l d)
 
--- what the lent doubles hold: the covariance, then zeros; and the lent numbers: where the assets' lines begin, then zeros
-unfoldable pub covarianceLaid : List ℕ → ℕ → ℕ → List Float
-unfolding readOutcome covarianceIn
-covarianceLaid text cells starts = laid pz (readOutcome text cells starts) cells (covarianceIn text)
+-- what the lent doubles hold: the cells, then zeros; and the lent numbers: where the assets' names begin, then zeros
+unfoldable pub cellsLaid : List ℕ → ℕ → ℕ → List Float
+unfolding readOutcome cellsIn
+cellsLaid text cells starts = laid pz (readOutcome text cells starts) cells (cellsIn text)
 
 unfoldable pub startsLaid : List ℕ → ℕ → ℕ → List ℕ
 unfolding readOutcome startsIn

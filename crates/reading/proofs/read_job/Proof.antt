@@ -44,7 +44,7 @@ read-text-requires c κs =
     let w = s .before .before .before .before in
     let j = w .before .before .before in
     let f = sizes-fit _ _ _ (sym (j .judge .ensures) ∙ e .enum-told .given .1) in
-    (f .short, (omega (arith, f .roomy, w .covariance .given), omega (arith, f .placed, s .starts .given)))
+    (f .short, (omega (arith, f .roomy, w .cells .given), omega (arith, f .placed, s .starts .given)))
 
 enum-told-2 : tie.Need-enum-told-2
 enum-told-2 c = search needs
@@ -92,7 +92,7 @@ returns-3 c =
     let w = q .before .before .before .before in
     let j = w .before .before .before in
     ends-refused _ _ _ _ _ _ _ _ _ (j .judge .ensures) (a .enum-told .given .1) (r .read-text .ensures) _ _ _ (e .enum-told2 .given .1)
-    ((simp unary-clauses at (d .clear-from .ensures)) ∙ ap zeros (v .covariance2 .given ∙ w .covariance .given))
+    ((simp unary-clauses at (d .clear-from .ensures)) ∙ ap zeros (v .cells2 .given ∙ w .cells .given))
     ((simp unary-clauses at (m .clear-numbers-from .ensures)) ∙ ap noughts (s .starts2 .given ∙ q .starts .given))
 
 pub read-job-spec : {M : Type 1} → statement M

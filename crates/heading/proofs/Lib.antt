@@ -1,0 +1,4 @@
+pub mod FirstLine
+pub mod Judged
+pub mod Tellings
+pub mod Figures

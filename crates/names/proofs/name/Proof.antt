@@ -1,0 +1,72 @@
+-- `names::name` meets its contract. Assumes nothing.
+use Prim.Native.Nat.{ℕ, _-_}
+use mathlib.Core.Path.{ap, _∙_}
+use native.Mathlib.Omega.{arith}
+use borrow.Author.Needs.{needs}
+use lib.ListN.{length, take, drop, drop-of-length-le}
+use lib.Seq.{drop-length, take-nil}
+use Rattle.fields.specs.Split.{firstPiece}
+use Rattle.fields.proofs.Pieces.{end-le, end-ge, cut-first, cut-front, front-length}
+use Rattle.names.proofs.name.Statement.{statement}
+use Rattle.names.proofs.name.Tie as tie
+
+sub-result : tie.Need-sub-result
+sub-result c = search needs
+
+part-result-start : tie.Need-part-result-start
+part-result-start c = search needs
+
+part-result-end : tie.Need-part-result-end
+part-result-end c = search needs
+
+returns : tie.Need-returns
+unfolding firstPiece
+returns c =
+    let t = c .before .before .before .args .text .now in
+    rw (drop-length, drop-of-length-le t (c .before .if1 .taken)) (take-nil (length t - length t))
+
+end-of-requires : tie.Need-end-of-requires
+end-of-requires c κs = search needs
+
+sub-line : tie.Need-sub-line
+sub-line c =
+    let s = c .before .before .before .args in
+    omega (arith, end-ge 10 (s .text .now) (s .start) (omega arith))
+
+part-line-start : tie.Need-part-line-start
+part-line-start c =
+    let s = c .before .before .before .args in
+    omega (arith, end-ge 10 (s .text .now) (s .start) (omega arith))
+
+part-line-end : tie.Need-part-line-end
+part-line-end c =
+    let s = c .before .before .before .args in
+    omega (arith, end-ge 10 (s .text .now) (s .start) (omega arith), end-le 10 (s .text .now) (s .start) (omega arith))
+
+end-of-requires-2 : tie.Need-end-of-requires-2
+end-of-requires-2 c κs = search needs
+
+slice-aggregate-result : tie.Need-slice-aggregate-result
+slice-aggregate-result c = rw (c .before .end-of2 .ensures) (front-length 9 _)
+
+returns-2 : tie.Need-returns-2
+returns-2 c =
+    let s = c .before .before .before .before .before .before .args in
+    let l = ap (λ (k : ℕ). take (k - s .start) (drop (s .start) (s .text .now))) (c .before .before .before .end-of .ensures) ∙ cut-first 10 (s .text .now) (s .start) (omega arith) in
+    rw (c .before .end-of2 .ensures) (cut-front 9 _ ∙ ap (firstPiece 9) l)
+
+pub name-spec : {M : Type 1} → statement M
+name-spec =
+    tie.close
+    (tie.spec
+    sub-result
+    part-result-start
+    part-result-end
+    returns
+    end-of-requires
+    sub-line
+    part-line-start
+    part-line-end
+    end-of-requires-2
+    slice-aggregate-result
+    returns-2)
