@@ -1,4 +1,4 @@
--- Document 01, "Figures to check (P: proved)": its P figures, and document 02's of request 1, as one table under one claim, computed from the definitions that the public functions' contracts cite. Assumes nothing.
+-- Document 01, "Figures to check (P: proved)": its P figures, document 02's of request 1, and three job texts with their listings, as one table under one claim, computed from the definitions that the public functions' contracts cite. Assumes nothing.
 use mathlib.Core.Path.{_≡_, refl}
 use mathlib.Core.Bool.{Bool, true, false, _&&_}
 use mathlib.Core.List.{List, [], _∷_, _++_, map}
@@ -11,20 +11,22 @@ use Rattle.arithmetic.specs.Constants.{pz}
 use Rattle.arithmetic.specs.Arithmetic.{minOf, maxOf, absOf, clampOf, finiteOf, countOf, oneOver}
 use Rattle.arithmetic.specs.Root.{isqrt, root}
 use Rattle.refusal.specs.Refusal.{numberOf, valuesOf}
-use Rattle.refusal.specs.Table.{first}
+use Rattle.refusal.specs.Table.{first, andThen}
 use Rattle.refusal.specs.declared.Outcome.{Outcome}
 use Rattle.refusal.specs.declared.Outcome.the-variants as outcome
 use Rattle.lent.specs.Count.{count, upto}
 use Rattle.lent.specs.Grid.{tab, grid, sumTo, sumOn, sumRows, anyTo}
 use Rattle.lent.specs.Range.{span, range}
-use Rattle.lent.specs.Lent.{overLimit, otherLength, tooBig, misfits, sizes, laid}
+use Rattle.lent.specs.Lent.{shapeOf, overLimit, otherLength, tooBig, misfits, sizes, laid}
 use Rattle.lent.specs.declared.Shape.the-variants.{Absent, Of}
 use Rattle.text.specs.Bytes.{bytes, same, lower, lowered, isWord}
 use Rattle.fields.specs.Split.{onto, split, all as every}
-use Rattle.fields.specs.Numerals.{digit, number, isCell, numeralRead, isNumeral}
+use Rattle.fields.specs.Numerals.{digit, number, isBits, numeralRead, isNumeral}
+use Rattle.decimals.specs.Decimal as decimals
+use Rattle.resample.specs.Resample.{isWeekly, isMonthly, stepOf, keepsAll, keptRows, keptRow, sampledCell, returnCell, zeroMet, breaksPriceRules}
 use Rattle.fractions.specs.Fractions.{inRange, wholePart, leftOver, wholeAt, leftAt, sooner, rankOf}
 use Rattle.millionths.specs.Millionths.{wholeTotal, missing, millionthsAt, millionthsIn, outOfReach, millionthsLines, millionthsTable, millionthsOutcome, millionthsLaid}
-use Rattle.stats.specs.Covariance.{correlationCell, anyLow}
+use Rattle.stats.specs.Covariance.{meanOf, spread, covarianceOf, covarianceCell, correlationCell, anyLow}
 use Rattle.distances.specs.Distances.{clamped, distanceOf, distanceCell, offDiagonal, square, between, betweenCell}
 use Rattle.tree.specs.Rows.{below, once, isTree}
 use Rattle.tree.specs.Tree.{grow, treeAt, leaves}
@@ -36,9 +38,9 @@ use Rattle.linkage.specs.declared.Distance.{Distance}
 use Rattle.linkage.specs.declared.Distance.the-variants.{Correlation, DistanceOfDistances}
 use Rattle.linkage.specs.declared.Linkage.{Linkage}
 use Rattle.linkage.specs.declared.Linkage.the-variants.{Single, Complete, Average, Ward}
+use Rattle.names.specs.Names.{isName}
+use Rattle.heading.specs.Heading as heading
 use Rattle.reading.specs.Reading as reading
-use Rattle.reading.specs.declared.Asked.{Asked}
-use Rattle.reading.specs.declared.Asked.the-variants as asked
 use Rattle.reading.specs.declared.Reading.{Reading}
 use Rattle.reading.specs.declared.Reading.the-variants as read
 use Rattle.clusters.specs.Clusters.{recip, recipSum, shares, term, varianceOf, outside, anyListedLow as anyLowOf, riskTable, sizeTable, sharesOutcome, varianceOutcome, varianceAnswer}
@@ -51,12 +53,14 @@ use Rattle.sharing.specs.Names.{metricNamed}
 use Rattle.sharing.specs.Split as sharing
 use Rattle.sharing.specs.Allot as allot
 use Rattle.sharing.specs.Down.{isSharpe, isTailRisk, metricTailLines}
-use Rattle.inputs.specs.Inputs.{absent, rowsOfShape, otherColumns, otherSize, matrixLines}
+use Rattle.inputs.specs.Inputs.{absent, rowsOfShape, otherColumns, otherSize, matrixLines, sampled, noReturns, madeReturns}
 use Rattle.arranging.specs.Arranging.{distancesIn, treeRows, treeOrder}
 use Rattle.parity.specs.Parity as parity
 use Rattle.hierarchy.specs.Hierarchy as hierarchy
 use Rattle.hrp.specs.Hrp as hrp
 use Rattle.hcaa.specs.Hcaa as hcaa
+use Rattle.listing.specs.Listing as listing
+use Rattle.job.specs.Job as job
 use Rattle.hcaa.specs.declared.Clusters.{Clusters}
 use Rattle.hcaa.specs.declared.Clusters.the-variants.{All, Count}
 
@@ -197,32 +201,26 @@ text clusters =
     ++ bytes "C\t0000000000000000\t0000000000000000\t3ff0000000000000\n"
 
 -- the call that a text asks for, by what is read in it
-abbrev clustersAs : Asked → Clusters
-clustersAs (asked.Count k) = Count k
-clustersAs asked.All = All
-clustersAs asked.Malformed = All
-
 abbrev called : Reading → List ℕ → List ℕ
 called (read.Refused r) t = numberOf r ∷ []
-called (read.Hrp n d) t = []
-called (read.Hcaa n l d) t =
-    shared (given n (take (n * n) (reading.covarianceLaid t 4096 64)) (reading.field (reading.line t 0) 1) (clustersAs (reading.clustersOf (reading.field (reading.line t 0) 4))) d l) n
+called (read.Hrp n rows p d) t = []
+called (read.Hcaa n rows p l d) t = shared (job.hcaaJobIn t l d) n
 
-abbrev job : List ℕ → List ℕ
-job clusters = called (reading.readOf (text clusters) 4096 64) (text clusters)
+abbrev asks : List ℕ → List ℕ
+asks clusters = called (reading.readOf (text clusters) 4096 64) (text clusters)
 
 abbrev hcaas : List Bool
 hcaas =
     -- the input prints these bits and millionths, and "order→C→A→B"
-    same (job (bytes "-")) (0 ∷ quarter ∷ quarter ∷ half ∷ 250000 ∷ 250000 ∷ 500000 ∷ 2 ∷ 0 ∷ 1 ∷ [])
-    ∷ same (job (bytes "3")) (0 ∷ quarter ∷ quarter ∷ half ∷ 250000 ∷ 250000 ∷ 500000 ∷ 2 ∷ 0 ∷ 1 ∷ [])
+    same (asks (bytes "-")) (0 ∷ quarter ∷ quarter ∷ half ∷ 250000 ∷ 250000 ∷ 500000 ∷ 2 ∷ 0 ∷ 1 ∷ [])
+    ∷ same (asks (bytes "3")) (0 ∷ quarter ∷ quarter ∷ half ∷ 250000 ∷ 250000 ∷ 500000 ∷ 2 ∷ 0 ∷ 1 ∷ [])
     -- "The job above with 2 clusters: same weights"
-    ∷ same (job (bytes "2")) (0 ∷ quarter ∷ quarter ∷ half ∷ 250000 ∷ 250000 ∷ 500000 ∷ 2 ∷ 0 ∷ 1 ∷ [])
+    ∷ same (asks (bytes "2")) (0 ∷ quarter ∷ quarter ∷ half ∷ 250000 ∷ 250000 ∷ 500000 ∷ 2 ∷ 0 ∷ 1 ∷ [])
     -- "with 1: each 3fd5555555555555"; document 02, request 3: "The 333333 figure of document 01 becomes 333334, 333333, 333333."
-    ∷ same (job (bytes "1")) (0 ∷ third ∷ third ∷ third ∷ 333334 ∷ 333333 ∷ 333333 ∷ 2 ∷ 0 ∷ 1 ∷ [])
+    ∷ same (asks (bytes "1")) (0 ∷ third ∷ third ∷ third ∷ 333334 ∷ 333333 ∷ 333333 ∷ 2 ∷ 0 ∷ 1 ∷ [])
     -- "Clusters 0 or 4: 6.", with the count asked and the assets
-    ∷ same (job (bytes "0")) (6 ∷ 0 ∷ 3 ∷ p0 ∷ p0 ∷ p0 ∷ 0 ∷ 0 ∷ 0 ∷ 0 ∷ 0 ∷ 0 ∷ [])
-    ∷ same (job (bytes "4")) (6 ∷ 4 ∷ 3 ∷ p0 ∷ p0 ∷ p0 ∷ 0 ∷ 0 ∷ 0 ∷ 0 ∷ 0 ∷ 0 ∷ [])
+    ∷ same (asks (bytes "0")) (6 ∷ 0 ∷ 3 ∷ p0 ∷ p0 ∷ p0 ∷ 0 ∷ 0 ∷ 0 ∷ 0 ∷ 0 ∷ 0 ∷ [])
+    ∷ same (asks (bytes "4")) (6 ∷ 4 ∷ 3 ∷ p0 ∷ p0 ∷ p0 ∷ 0 ∷ 0 ∷ 0 ∷ 0 ∷ 0 ∷ 0 ∷ [])
     -- "HCAA equal, (infinity, 1): 2 clusters 1, 1 cluster 0.5 each."
     ∷ same (pair infinity one 2) (1 ∷ p0 ∷ p0 ∷ 0 ∷ 0 ∷ 0 ∷ 0 ∷ [])
     ∷ same (pair infinity one 1) (0 ∷ half ∷ half ∷ 500000 ∷ 500000 ∷ 0 ∷ 1 ∷ [])
@@ -303,6 +301,24 @@ hrps d =
     ∷ same (halved d 1 (doubles (infinity ∷ []))) (0 ∷ one ∷ [])
     ∷ []
 
+-- ---- job texts and their listings
+
+-- a text is accepted, and lists this
+abbrev lists : List ℕ → List ℕ → Bool
+lists t l = same (told (job.jobOutcome t 8192)) (0 ∷ []) && same (job.listingOf t) l
+
+abbrev listings : List Bool
+listings =
+    -- "this input prints name, weight bits, millionths, then the leaf order"
+    lists (text (bytes "-")) (bytes "A\t3fd0000000000000\t250000\nB\t3fd0000000000000\t250000\nC\t3fe0000000000000\t500000\norder\tC\tA\tB\n")
+    -- by a worst day's loss of 1/4 and of 3/4, as request 1's figure
+    ∷ lists (bytes "hcaa\texpected_shortfall\tsingle\tcorrelation\t-\tprices\nA\tB\n4\t4.00\n3\t1\n4\t04\n")
+    (bytes "A\t3fe8000000000000\t750000\nB\t3fd0000000000000\t250000\norder\tA\tB\n")
+    -- of variances 1/8 and 2: 16/17 and 1/17
+    ∷ lists (bytes "hrp\tcorrelation\tprices\nA\tB\n1\t1.0\n2.00\t3\n3\t4008000000000000\n")
+    (bytes "A\t3fee1e1e1e1e1e1e\t941176\nB\t3fae1e1e1e1e1e20\t58824\norder\tA\tB\n")
+    ∷ []
+
 -- ---- roots
 
 abbrev roots : List Bool
@@ -318,9 +334,9 @@ all [] = true
 all (b ∷ bs) = b && all bs
 
 abbrev table : List Bool
-table = trees ++ (hcaas ++ (tails ++ (hrps Correlation ++ (hrps DistanceOfDistances ++ roots))))
+table = trees ++ (hcaas ++ (tails ++ (hrps Correlation ++ (hrps DistanceOfDistances ++ (listings ++ roots)))))
 
 -- "The P figures are proved as one table under one claim"
 pub figures : all table ≡ true
-unfolding same lower lowered isWord childrenTable childrenOutcome childrenRows wardF updateF pairBefore near better offer look scanRow scanFrom scanAll both movable moved movedAll merged step copied start stateAt mergeRows order.orderTable order.orderOutcome order.orderLaid count below once isTree grow treeAt leaves onto split digit number isCell isNumeral numeralRead distanceNamed linkageNamed reading.clustersOf reading.isHrp reading.isHcaa reading.isName reading.isAsset reading.isJob reading.textCell reading.covarianceIn reading.distanceField reading.textLines reading.readTable reading.readOutcome reading.jobIn reading.readOf reading.covarianceLaid hcaa.hcaaReturnRows hcaa.returnColumns hcaa.hcaaReturnCells hcaa.pricesRefused hcaa.rowsMade hcaa.columnsMade hcaa.cellsMade hcaa.hcaaCovarianceBy hcaa.hcaaCovariance hcaa.metricOf hcaa.usedMetric hcaa.unnamed hcaa.isMean hcaa.isExponential hcaa.expectedOf hcaa.usedExpected hcaa.clusterCount hcaa.usedRule hcaa.nameLines hcaa.matrixRules hcaa.sharpeLines hcaa.hcaaTable hcaa.hcaaOutcome hcaa.usedInputs metricNamed isSharpe isTailRisk metricTailLines nearest.noPart tail.gain tail.rowReturn tail.tailSum tail.tailCount tail.mean tail.shortfall tail.wealth tail.higher tail.peak tail.fall tail.drawdown tail.conditionalDrawdown tail.shortfallOf tail.drawdownOf ordered.hasMinus ordered.before ordered.insert ordered.insertAll ordered.sorted nearest.wholeOf nearest.place nearest.quantile hierarchy.hcaaRows hierarchy.hcaaOrder hierarchy.hcaaShares hierarchy.roomLines hierarchy.shareLines allot.downShares allot.allotted allot.insideOf allot.variedOf allot.equalOf allot.spreadOf allot.dealTo sharing.splitOf sharing.scored sharing.byRisk sharing.splitBy sharing.bounded inRange every millionthsTable millionthsOutcome millionthsIn millionthsLaid hrp.pricesAlone hrp.hrpReturnRows hrp.hrpReturnCells hrp.hrpCovarianceBy hrp.hrpCovariance hrp.hrpShapeLines hrp.numberLines hrp.hrpTable hrp.hrpOutcome absent rowsOfShape otherColumns otherSize matrixLines parity.correlationsOf parity.hrpDistances parity.treeDistances distancesIn treeRows treeOrder parity.hrpRows parity.hrpOrder parity.hrpShares parity.parityRoomLines parity.hrpRiskLines bisection.factorOf bisection.sidesFactor bisection.halved bisection.bisected bisection.normal bisection.bisectionShares tooBig misfits overLimit otherLength sizes laid first tab grid sumTo sumOn sumRows anyTo range span isNone weightsIn recip recipSum shares term varianceOf outside anyLowOf riskTable sizeTable sharesOutcome varianceOutcome varianceAnswer correlationCell anyLow clamped distanceOf distanceCell offDiagonal square between betweenCell minOf maxOf absOf clampOf finiteOf countOf oneOver root isqrt lt le eq isNan neg add sum sub mul div ofInt round units odd trailingZeros size ieee-span climb ofFields ofBits toBits wholePart leftOver wholeAt leftAt sooner rankOf wholeTotal missing millionthsAt outOfReach millionthsLines upto
+unfolding andThen same lower lowered isWord childrenTable childrenOutcome childrenRows wardF updateF pairBefore near better offer look scanRow scanFrom scanAll both movable moved movedAll merged step copied start stateAt mergeRows order.orderTable order.orderOutcome order.orderLaid count below once isTree grow treeAt leaves onto split digit number isBits isNumeral numeralRead decimals.isCell decimals.cellOf decimals.isDecimal decimals.decimalOf decimals.signedBy decimals.overTens decimals.digitsOf decimals.isBare decimals.shaped decimals.bare decimals.signed distanceNamed linkageNamed heading.clustersOf heading.pricesAfter heading.isOf heading.isHrp heading.isHcaa heading.isPriced heading.distanceField heading.unknownLines heading.headOf reading.priced reading.rowsIn reading.assets isName reading.isRow reading.isAsset reading.isDay reading.isNames reading.isCovariance reading.isPrices reading.isBlock reading.isJob reading.textCell reading.cellsIn reading.nameOf reading.isOver reading.textLines reading.readTable reading.readOutcome reading.jobIn reading.readOf job.cellsIf job.hrpJobIn job.hcaaJobIn job.allocatorSays job.jobWeights job.jobOrder job.textTable job.jobOutcome job.listingOf shapeOf isWeekly isMonthly stepOf keepsAll keptRows keptRow sampledCell returnCell zeroMet breaksPriceRules sampled noReturns madeReturns meanOf spread covarianceOf covarianceCell hrp.estimated hrp.shrunkIf hcaa.namesJudged hcaa.rowsJudged hcaa.sharpeJudged listing.listing listing.joined listing.lineOf listing.ordered listing.assetLine listing.decimal listing.hexOf listing.places listing.digits listing.digitByte hcaa.hcaaReturnRows hcaa.returnColumns hcaa.hcaaReturnCells hcaa.pricesRefused hcaa.rowsMade hcaa.columnsMade hcaa.cellsMade hcaa.hcaaCovarianceBy hcaa.hcaaCovariance hcaa.metricOf hcaa.usedMetric hcaa.unnamed hcaa.isMean hcaa.isExponential hcaa.expectedOf hcaa.usedExpected hcaa.clusterCount hcaa.usedRule hcaa.nameLines hcaa.matrixRules hcaa.sharpeLines hcaa.hcaaTable hcaa.hcaaOutcome hcaa.usedInputs metricNamed isSharpe isTailRisk metricTailLines nearest.noPart tail.gain tail.rowReturn tail.tailSum tail.tailCount tail.mean tail.shortfall tail.wealth tail.higher tail.peak tail.fall tail.drawdown tail.conditionalDrawdown tail.shortfallOf tail.drawdownOf ordered.hasMinus ordered.before ordered.insert ordered.insertAll ordered.sorted nearest.wholeOf nearest.place nearest.quantile hierarchy.hcaaRows hierarchy.hcaaOrder hierarchy.hcaaShares hierarchy.roomLines hierarchy.shareLines allot.downShares allot.allotted allot.insideOf allot.variedOf allot.equalOf allot.spreadOf allot.dealTo sharing.splitOf sharing.scored sharing.byRisk sharing.splitBy sharing.bounded inRange every millionthsTable millionthsOutcome millionthsIn millionthsLaid hrp.pricesAlone hrp.hrpReturnRows hrp.hrpReturnCells hrp.hrpCovarianceBy hrp.hrpCovariance hrp.hrpShapeLines hrp.numberLines hrp.hrpTable hrp.hrpOutcome absent rowsOfShape otherColumns otherSize matrixLines parity.correlationsOf parity.hrpDistances parity.treeDistances distancesIn treeRows treeOrder parity.hrpRows parity.hrpOrder parity.hrpShares parity.parityRoomLines parity.hrpRiskLines bisection.factorOf bisection.sidesFactor bisection.halved bisection.bisected bisection.normal bisection.bisectionShares tooBig misfits overLimit otherLength sizes laid first tab grid sumTo sumOn sumRows anyTo range span isNone weightsIn recip recipSum shares term varianceOf outside anyLowOf riskTable sizeTable sharesOutcome varianceOutcome varianceAnswer correlationCell anyLow clamped distanceOf distanceCell offDiagonal square between betweenCell minOf maxOf absOf clampOf finiteOf countOf oneOver root isqrt lt le eq isNan neg add sum sub mul div ofInt round units odd trailingZeros size ieee-span climb ofFields ofBits toBits wholePart leftOver wholeAt leftAt sooner rankOf wholeTotal missing millionthsAt outOfReach millionthsLines upto
 figures = refl

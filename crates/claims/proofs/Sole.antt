@@ -1,5 +1,5 @@
 -- No second answer fits: for each public function CRATE::FUNCTION of the libraries a theorem CRATE-FUNCTION on its own contract, which the check reads off its `ensures`: CRATE·FUNCTION.
--- Two functions return a part of a slice, `fields::piece` and `reading::name`: their contracts say what bytes it has, and leave open where it lies.
+-- Two functions return a part of a slice, `fields::piece` and `names::name`: their contracts say what bytes it has, and leave open where it lies.
 -- A double is the logic's, which has one NaN. Assumes nothing.
 use Prim.Native.Nat.{ℕ}
 use mathlib.Core.Path.{_≡_, refl, sym, _∙_}
@@ -53,8 +53,11 @@ use Rattle.text.proofs.is_word as text·is-word
 use Rattle.fields.proofs.end_of as fields·end-of
 use Rattle.fields.proofs.count as fields·count
 use Rattle.fields.proofs.piece as fields·piece
-use Rattle.fields.proofs.read_cell as fields·read-cell
+use Rattle.fields.proofs.digit as fields·digit
+use Rattle.fields.proofs.read_bits as fields·read-bits
 use Rattle.fields.proofs.read_numeral as fields·read-numeral
+use Rattle.decimals.proofs.read_decimal as decimals·read-decimal
+use Rattle.decimals.proofs.read_cell as decimals·read-cell
 use Rattle.resample.proofs.freq_step as resample·freq-step
 use Rattle.resample.proofs.resample_prices as resample·resample-prices
 use Rattle.resample.proofs.returns_from_prices as resample·returns-from-prices
@@ -79,9 +82,12 @@ use Rattle.linkage.proofs.distance_named as linkage·distance-named
 use Rattle.linkage.proofs.linkage_named as linkage·linkage-named
 use Rattle.linkage.proofs.Linkage.update as linkage·update
 use Rattle.linkage.proofs.linkage_children as linkage·linkage-children
-use Rattle.reading.proofs.clusters_asked as reading·clusters-asked
+use Rattle.names.proofs.is_name as names·is-name
+use Rattle.names.proofs.name as names·name
+use Rattle.heading.proofs.clusters_asked as heading·clusters-asked
+use Rattle.heading.proofs.is_priced as heading·is-priced
+use Rattle.heading.proofs.head as heading·head
 use Rattle.reading.proofs.read_job as reading·read-job
-use Rattle.reading.proofs.name as reading·name
 use Rattle.clusters.proofs.inverse_variance_weights as clusters·inverse-variance-weights
 use Rattle.clusters.proofs.cluster_variance as clusters·cluster-variance
 use Rattle.clusters.proofs.cluster_sharpe as clusters·cluster-sharpe
@@ -335,11 +341,22 @@ fields-count κs a r r′ e e′ p q = (sole p q, refl)
 pub fields-piece : SoleOf fields·piece.ended fields·piece.Reads.Post (λ κs r. now r)
 fields-piece κs a r r′ e e′ p q = (sole p q, refl)
 
-pub fields-read-cell : Sole fields·read-cell.ended fields·read-cell.Reads.Post
-fields-read-cell κs a r r′ e e′ p q = (sole p q, refl)
+pub fields-digit : Sole fields·digit.ended fields·digit.Reads.Post
+fields-digit κs a r r′ e e′ p q = (sole p q, refl)
+
+pub fields-read-bits : Sole fields·read-bits.ended fields·read-bits.Reads.Post
+fields-read-bits κs a r r′ e e′ p q = (sole p q, refl)
 
 pub fields-read-numeral : Sole fields·read-numeral.ended fields·read-numeral.Reads.Post
 fields-read-numeral κs a r r′ e e′ p q = (sole p q, refl)
+
+-- ---- decimals: cells, as decimals or as bits
+
+pub decimals-read-decimal : Sole decimals·read-decimal.ended decimals·read-decimal.Reads.Post
+decimals-read-decimal κs a r r′ e e′ p q = (sole p q, refl)
+
+pub decimals-read-cell : Sole decimals·read-cell.ended decimals·read-cell.Reads.Post
+decimals-read-cell κs a r r′ e e′ p q = (sole p q, refl)
 
 -- ---- resample: sampling and returns
 
@@ -429,16 +446,29 @@ linkage-update κs a r r′ e e′ p q = (sole p q, refl)
 pub linkage-linkage-children : Sole linkage·linkage-children.ended linkage·linkage-children.Reads.Post
 linkage-linkage-children κs a r r′ e e′ p q = (sole (p .0) (q .0), λ i. (tt, (tt, (tt, (tt, (sole (p .1) (q .1) i, tt))))))
 
--- ---- reading: a job text read; of a name, its bytes
+-- ---- names: of a name, its bytes
 
-pub reading-clusters-asked : Sole reading·clusters-asked.ended reading·clusters-asked.Reads.Post
-reading-clusters-asked κs a r r′ e e′ p q = (sole p q, refl)
+pub names-is-name : Sole names·is-name.ended names·is-name.Reads.Post
+names-is-name κs a r r′ e e′ p q = (sole p q, refl)
+
+pub names-name : SoleOf names·name.ended names·name.Reads.Post (λ κs r. now r)
+names-name κs a r r′ e e′ p q = (sole p q, refl)
+
+-- ---- heading: the first line of a job text
+
+pub heading-clusters-asked : Sole heading·clusters-asked.ended heading·clusters-asked.Reads.Post
+heading-clusters-asked κs a r r′ e e′ p q = (sole p q, refl)
+
+pub heading-is-priced : Sole heading·is-priced.ended heading·is-priced.Reads.Post
+heading-is-priced κs a r r′ e e′ p q = (sole p q, refl)
+
+pub heading-head : Sole heading·head.ended heading·head.Reads.Post
+heading-head κs a r r′ e e′ p q = (sole p q, refl)
+
+-- ---- reading: a job text read
 
 pub reading-read-job : Sole reading·read-job.ended reading·read-job.Reads.Post
 reading-read-job κs a r r′ e e′ p q = (sole (p .0) (q .0), λ i. (tt, (sole (p .1 .0) (q .1 .0) i, (sole (p .1 .1) (q .1 .1) i, tt))))
-
-pub reading-name : SoleOf reading·name.ended reading·name.Reads.Post (λ κs r. now r)
-reading-name κs a r r′ e e′ p q = (sole p q, refl)
 
 -- ---- clusters: risk of a list of assets
 

@@ -1,11 +1,11 @@
 -- How the call ends: by what the text, the allocator and the millionths say. Assumes nothing.
-use Prim.Native.Nat.{ℕ, zero, suc, _+_, _≤_, _<_}
+use Prim.Native.Nat.{ℕ, zero, suc, _≤_, _<_}
 use mathlib.Core.Path.{_≡_, refl, sym, ap, _∙_, subst}
 use mathlib.Core.Bool.{Bool, true, false, not, cond}
 use mathlib.Core.List.{List, [], _∷_}
 use native.Mathlib.Omega.{arith}
 use borrow.Author.Tests.{lt-ltb, le-ltb, le-leb, eq-eqb}
-use lib.Dec.{ltb, eqb}
+use lib.Dec.{ltb}
 use lib.ListN.{length, take, getD}
 use lib.Seq.{length-take-le}
 use lib.Ieee.{Float}
@@ -20,7 +20,7 @@ use Rattle.lent.proofs.Laws.{length-tab}
 use Rattle.fields.specs.Split.{all}
 use Rattle.tree.specs.Rows.{isOrder}
 use Rattle.tree.proofs.Rows.{is-order}
-use Rattle.reading.specs.Reading.{assets, nameOf, startOf, startsIn, textLines, readTable, readOutcome, jobIn}
+use Rattle.reading.specs.Reading.{assets, nameOf, nameStart, startsIn, textLines, readTable, readOutcome, jobIn}
 use Rattle.reading.proofs.Answer.{outcome-done}
 use Rattle.reading.proofs.Accepted.{Accepted, accepted, name-short, name-at, start-kept}
 use Rattle.millionths.specs.Millionths.{millionthsLines}
@@ -115,20 +115,20 @@ module _ (text starts : List ℕ) (done : readOutcome text 4096 64 ≡ Done) (pl
 
   pub counted : length starts ≡ assets text
   unfolding startsIn
-  counted = ap length places ∙ length-tab (assets text) (λ (i : ℕ). startOf text (i + 1))
+  counted = ap length places ∙ length-tab (assets text) (nameStart text)
 
   pub few : length starts ≤ 64
   few = omega (arith, counted, good .few)
 
   name-is : (i : ℕ) → i < assets text → nameIn text starts i ≡ nameOf text i
   unfolding nameIn
-  name-is i h = rw (places, start-kept text (good .job) i h) (name-at text (good .job) i h)
+  name-is i h = rw (places, start-kept text i (good .job) h) (name-at text i (good .job) h)
 
   short-names : all (isShort text) starts ≡ true
   unfolding isShort nameIn
   short-names = every (isShort text) starts 0 (λ i h.
       let g : i < assets text = omega (arith, counted) in
-      le-leb (length (nameIn text starts i)) 16 (omega (arith, ap length (name-is i g), name-short text (good .job) i g .1)))
+      le-leb (length (nameIn text starts i)) 16 (omega (arith, ap length (name-is i g), name-short text i (good .job) g .1)))
 
   -- ---- and how it ends, by what the allocator said and the weights and the order that it left
 

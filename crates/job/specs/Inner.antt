@@ -9,7 +9,7 @@ use Rattle.refusal.specs.declared.Outcome.{Outcome}
 use Rattle.refusal.specs.declared.Outcome.the-variants.{Done}
 use Rattle.lent.specs.Grid.{noughts}
 use Rattle.tree.specs.Rows.{isOrder}
-use Rattle.reading.specs.Reading.{assets, covarianceIn, startsIn, readOutcome, jobIn}
+use Rattle.reading.specs.Reading.{assets, cellsIn, startsIn, readOutcome, jobIn}
 use Rattle.reading.specs.declared.Reading.{Reading}
 use Rattle.listing.specs.Listing.{ListingMade}
 use Rattle.listing.specs.declared.Listed.{Listed}
@@ -20,11 +20,11 @@ pub record BlankListing (out : List ℕ) : Type 0 where
   pub room : 8192 ≤ length out
   pub zero : out ≡ noughts (length out)
 
--- a job that was read from a text: its covariance, and where the lines of its assets begin
-pub record Read (text : List ℕ) (job : Reading) (covariance : List Float) (starts : List ℕ) : Type 0 where
+-- a job that was read from a text: its cells, and where the names of its assets begin
+pub record Read (text : List ℕ) (job : Reading) (cells : List Float) (starts : List ℕ) : Type 0 where
   pub done : readOutcome text 4096 64 ≡ Done
   pub is : jobIn text ≡ job
-  pub cells : covariance ≡ covarianceIn text
+  pub cells-are : cells ≡ cellsIn text
   pub places : starts ≡ startsIn text
 
 -- the allocator's answer for such a job, at the front of buffers of 64

@@ -1,8 +1,8 @@
--- Document 01, "Millionths and the job program": from a job text to its listing. "Order: 9, 15, 8, 7, the allocator's, 13",
--- and document 02, request 3: "18, after 13". Definitions only.
+-- Document 01, "Millionths and the job program": from a job text to its listing. "Order: 9, 15, 8, 7, the allocator's, 13"; document 02, request 3: "18, after 13";
+-- and request 8: prices "in place of the covariance". Definitions only.
 use Prim.Native.Nat.{ℕ}
 use mathlib.Core.Path.{_≡_}
-use mathlib.Core.Bool.{false}
+use mathlib.Core.Bool.{Bool, true, false, not}
 use mathlib.Core.List.{List, [], _∷_}
 use lib.Dec.{ltb}
 use lib.ListN.{length}
@@ -11,10 +11,13 @@ use Rattle.refusal.specs.Table.{Line, first, andThen}
 use Rattle.refusal.specs.declared.Refusal.the-variants.{OverLimit, ShortBuffer}
 use Rattle.refusal.specs.declared.Outcome.{Outcome}
 use Rattle.refusal.specs.declared.Outcome.the-variants as outcome
-use Rattle.lent.specs.declared.Shape.the-variants.{Absent, Of}
-use Rattle.reading.specs.Reading.{most-bytes, textLines, jobIn, assets, line, field, covarianceIn, nameOf, clustersOf}
-use Rattle.reading.specs.declared.Asked.{Asked}
-use Rattle.reading.specs.declared.Asked.the-variants as asked
+use Rattle.lent.specs.Lent.{shapeOf}
+use Rattle.lent.specs.declared.Shape.the-variants.{Absent}
+use Rattle.text.specs.Bytes.{bytes}
+use Rattle.heading.specs.Heading.{field, clustersOf}
+use Rattle.heading.specs.declared.Asked.{Asked}
+use Rattle.heading.specs.declared.Asked.the-variants as asked
+use Rattle.reading.specs.Reading.{most-bytes, textLines, jobIn, line, priced, rowsIn, assets, cellsIn, nameOf}
 use Rattle.reading.specs.declared.Reading.{Reading}
 use Rattle.reading.specs.declared.Reading.the-variants as reading
 use Rattle.linkage.specs.declared.Distance.{Distance}
@@ -33,29 +36,35 @@ use Rattle.millionths.specs.Meaning.{Serves}
 use Rattle.listing.specs.Listing.{listing, least-listing, ListingMade}
 use Rattle.listing.specs.declared.Listed.{Listed}
 
--- ---- the allocator's call: the covariance of the text, and nothing else
+-- ---- the allocator's call: the cells of the text, as prices or as a covariance, and nothing else
 
 abbrev pub clustersAs : Asked → Clusters
 clustersAs (asked.Count k) = clusters.Count k
 clustersAs asked.All = clusters.All
 clustersAs asked.Malformed = clusters.All
 
+-- the cells where they are given as this, else none
+unfoldable pub cellsIf : Bool → List Float → List Float
+cellsIf true cells = cells
+cellsIf false cells = []
+
+-- "Such a job keeps every day, shrinks nothing ..
 unfoldable pub hrpJobIn : List ℕ → Distance → hrp.HrpJob
-unfolding covarianceIn
+unfolding priced rowsIn assets cellsIn cellsIf shapeOf
 hrpJobIn text d = record {
   assets = assets text;
-  prices = [];
-  prices-shape = Absent;
+  prices = cellsIf (priced text) (cellsIn text);
+  prices-shape = shapeOf (priced text) (rowsIn text) (assets text);
   returns = [];
   returns-shape = Absent;
-  covariance = covarianceIn text;
-  covariance-shape = Of (assets text) (assets text);
+  covariance = cellsIf (not (priced text)) (cellsIn text);
+  covariance-shape = shapeOf (not (priced text)) (rowsIn text) (assets text);
   resample-by = [];
   use-shrinkage = false;
   distance = d;
 }
 
--- a job text has no rows of returns, so that a tail-risk metric is refused (16) whatever the confidence; it is the double nearest 0.05
+-- .. estimates by `mean` and uses the double nearest 0.05 as confidence." A covariance has no rows of returns, so that neither is read
 abbrev pub confidence : Float
 confidence = ofBits binary64 0x3fa9_9999_9999_999a
 
@@ -67,19 +76,19 @@ abbrev pub clustersIn : List ℕ → Clusters
 clustersIn text = clustersAs (clustersOf (field (line text 0) 4))
 
 unfoldable pub hcaaJobIn : List ℕ → Linkage → Distance → hcaa.HcaaJob
-unfolding covarianceIn clustersOf
+unfolding priced rowsIn assets cellsIn cellsIf shapeOf clustersOf
 hcaaJobIn text l d = record {
   assets = assets text;
-  prices = [];
-  prices-shape = Absent;
+  prices = cellsIf (priced text) (cellsIn text);
+  prices-shape = shapeOf (priced text) (rowsIn text) (assets text);
   returns = [];
   returns-shape = Absent;
-  covariance = covarianceIn text;
-  covariance-shape = Of (assets text) (assets text);
+  covariance = cellsIf (not (priced text)) (cellsIn text);
+  covariance-shape = shapeOf (not (priced text)) (rowsIn text) (assets text);
   expected = [];
   expected-given = false;
   metric = metricIn text;
-  method = [];
+  method = bytes "mean";
   confidence = confidence;
   clusters = clustersIn text;
   resample-by = [];
@@ -99,20 +108,21 @@ roomOfHcaa = record { rows = 126; order = 64; weights = 64; scratch = 8192 }
 unfoldable pub allocatorSays : List ℕ → Reading → Outcome
 unfolding hrpJobIn hcaaJobIn
 allocatorSays text (reading.Refused r) = outcome.Refused r
-allocatorSays text (reading.Hrp n d) = hrp.hrpOutcome (hrpJobIn text d) roomOfHrp
-allocatorSays text (reading.Hcaa n l d) = hcaa.hcaaOutcome (hcaaJobIn text l d) roomOfHcaa
+allocatorSays text (reading.Hrp n rows p d) = hrp.hrpOutcome (hrpJobIn text d) roomOfHrp
+allocatorSays text (reading.Hcaa n rows p l d) = hcaa.hcaaOutcome (hcaaJobIn text l d) roomOfHcaa
 
 unfoldable pub jobWeights : List ℕ → Reading → List Float
-unfolding hcaaJobIn covarianceIn
+unfolding hrpJobIn hcaaJobIn
 jobWeights text (reading.Refused r) = []
-jobWeights text (reading.Hrp n d) = weightsIn (parity.hrpShares d (covarianceIn text) n)
-jobWeights text (reading.Hcaa n l d) = weightsIn (hierarchy.hcaaShares (hcaa.usedRule (hcaaJobIn text l d)) d l (covarianceIn text) n)
+jobWeights text (reading.Hrp n rows p d) = weightsIn (parity.hrpShares d (hrp.hrpCovariance (hrpJobIn text d)) n)
+jobWeights text (reading.Hcaa n rows p l d) =
+    weightsIn (hierarchy.hcaaShares (hcaa.usedRule (hcaaJobIn text l d)) d l (hcaa.hcaaCovariance (hcaaJobIn text l d)) n)
 
 unfoldable pub jobOrder : List ℕ → Reading → List ℕ
-unfolding covarianceIn
+unfolding hrpJobIn hcaaJobIn
 jobOrder text (reading.Refused r) = []
-jobOrder text (reading.Hrp n d) = parity.hrpOrder d (covarianceIn text) n
-jobOrder text (reading.Hcaa n l d) = hierarchy.hcaaOrder d l (covarianceIn text) n
+jobOrder text (reading.Hrp n rows p d) = parity.hrpOrder d (hrp.hrpCovariance (hrpJobIn text d)) n
+jobOrder text (reading.Hcaa n rows p l d) = hierarchy.hcaaOrder d l (hcaa.hcaaCovariance (hcaaJobIn text l d)) n
 
 -- ---- refusals
 
@@ -139,7 +149,7 @@ pub record TextListed (text : List ℕ) (room : ℕ) (r : Listed) (out : List �
   -- document 02, request 3: an accepted text lists millionths that total 1,000,000, nobody's moved by more than one
   pub adds-up : jobOutcome text room ≡ outcome.Done → Serves (jobWeights text (jobIn text)) (millionthsIn (jobWeights text (jobIn text)))
   -- demand 3: an accepted `hcaa` text by equal weighting lists equal shares, by the rows of its tree and its clusters
-  pub equal-shares : (l : Linkage) (d : Distance) → jobOutcome text room ≡ outcome.Done → jobIn text ≡ reading.Hcaa (assets text) l d
+  pub equal-shares : (l : Linkage) (d : Distance) → jobOutcome text room ≡ outcome.Done → jobIn text ≡ reading.Hcaa (assets text) (rowsIn text) (priced text) l d
       → hcaa.usedMetric (hcaaJobIn text l d) ≡ EqualWeighting
       → EqualShares (assets text) (hcaa.clusterCount (clustersIn text) (assets text))
-      (hierarchy.hcaaRows d l (covarianceIn text) (assets text)) (jobWeights text (jobIn text))
+      (hierarchy.hcaaRows d l (hcaa.hcaaCovariance (hcaaJobIn text l d)) (assets text)) (jobWeights text (jobIn text))

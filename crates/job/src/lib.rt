@@ -1,11 +1,11 @@
 // From a job text to its listing: read, allocated, written into a lent buffer.
 
 use hcaa::Clusters;
+use heading::Asked;
 use lent::Shape;
 use linkage::Distance;
 use linkage::Linkage;
 use listing::Listed;
-use reading::Asked;
 use reading::Reading;
 use refusal::Outcome;
 use refusal::Refusal;
@@ -14,15 +14,25 @@ ghost use mathlib.Core.Bool.{cond};
 ghost use lib.Dec.{ltb};
 ghost use lib.ListN.{length};
 ghost use Rattle.refusal.specs.declared.Refusal.the-variants.{OverLimit, ShortBuffer};
-ghost use Rattle.reading.specs.Reading.{field, clustersOf};
+ghost use Rattle.heading.specs.Heading.{field, clustersOf};
 ghost use Rattle.reading.specs.declared.Reading.the-variants as reading;
 ghost use Rattle.job.specs.Inner.{BlankListing, Read, Allotted, Told};
-ghost use Rattle.job.specs.Job.{clustersAs, roomOfHrp, roomOfHcaa, TextListed};
+ghost use Rattle.job.specs.Job.{clustersAs, cellsIf, roomOfHrp, roomOfHcaa, TextListed};
 
-// A job text has no rows of returns, so that no metric reads it.
+// What the tail-risk metrics read of prices.
 const CONFIDENCE: f64 = 0.05;
 
-// The listing of an allocator's answer for the assets whose lines begin at `starts`.
+// The cells where they are given as this, else none.
+fn cells_if(given: bool, cells: &[f64]) -> &[f64]
+    ensures { λ r. ⌜ now r ≡ cellsIf given (now (cells .entry)) ⌝ }
+{
+    if given {
+        return cells;
+    }
+    &cells[..0]
+}
+
+// The listing of an allocator's answer for the assets whose names begin at `starts`.
 fn finish(
     text: &[u8],
     starts: &[usize],
@@ -51,8 +61,10 @@ fn hrp_in(
     distances: &mut [f64],
     scratch: &mut [f64],
     text: &[u8],
-    covariance: &[f64],
+    cells: &[f64],
     starts: &[usize],
+    lines: usize,
+    priced: bool,
     distance: Distance,
     out: &mut [u8],
 ) -> Listed
@@ -64,22 +76,19 @@ fn hrp_in(
       distances = length (now distances);
       scratch = length (now scratch);
     } ≡ roomOfHrp ⌝ }
-    requires { ⌜ Read (now text) (reading.Hrp (length (now starts)) distance) (now covariance) (now starts) ⌝ }
+    requires { ⌜ Read (now text) (reading.Hrp (length (now starts)) lines priced distance) (now cells) (now starts) ⌝ }
     requires { ⌜ BlankListing (now out) ⌝ }
     ensures { λ r. ⌜ Told (now (text .entry)) (length (now (out .entry))) r (now (out .exit)) ⌝ }
 {
     let n = starts.len();
     let said = hrp::allocate(
         n,
-        &covariance[..0],
+        cells_if(priced, cells),
+        lent::shape_if(priced, lines, n),
+        &cells[..0],
         Shape::Absent,
-        &covariance[..0],
-        Shape::Absent,
-        covariance,
-        Shape::Of {
-            rows: n,
-            columns: n,
-        },
+        cells_if(!priced, cells),
+        lent::shape_if(!priced, lines, n),
         &text[..0],
         false,
         distance,
@@ -95,12 +104,14 @@ fn hrp_in(
 
 fn by_hrp(
     text: &[u8],
-    covariance: &[f64],
+    cells: &[f64],
     starts: &[usize],
+    lines: usize,
+    priced: bool,
     distance: Distance,
     out: &mut [u8],
 ) -> Listed
-    requires { ⌜ Read (now text) (reading.Hrp (length (now starts)) distance) (now covariance) (now starts) ⌝ }
+    requires { ⌜ Read (now text) (reading.Hrp (length (now starts)) lines priced distance) (now cells) (now starts) ⌝ }
     requires { ⌜ BlankListing (now out) ⌝ }
     ensures { λ r. ⌜ Told (now (text .entry)) (length (now (out .entry))) r (now (out .exit)) ⌝ }
 {
@@ -118,8 +129,10 @@ fn by_hrp(
         &mut distances,
         &mut scratch,
         text,
-        covariance,
+        cells,
         starts,
+        lines,
+        priced,
         distance,
         out,
     )
@@ -129,7 +142,7 @@ fn by_hrp(
 fn clusters_in(line: &[u8]) -> Clusters
     ensures { λ r. ⌜ r ≡ clustersAs (clustersOf (field (now (line .entry)) 4)) ⌝ }
 {
-    let asked = reading::clusters_asked(fields::piece(line, b'\t', 4));
+    let asked = heading::clusters_asked(fields::piece(line, b'\t', 4));
     match asked {
         Asked::Malformed => Clusters::All,
         Asked::All => Clusters::All,
@@ -144,14 +157,16 @@ fn hcaa_in(
     weights: &mut [f64],
     scratch: &mut [f64],
     text: &[u8],
-    covariance: &[f64],
+    cells: &[f64],
     starts: &[usize],
+    lines: usize,
+    priced: bool,
     linkage: Linkage,
     distance: Distance,
     out: &mut [u8],
 ) -> Listed
     requires { ⌜ record { rows = length (now rows); order = length (now order); weights = length (now weights); scratch = length (now scratch) } ≡ roomOfHcaa ⌝ }
-    requires { ⌜ Read (now text) (reading.Hcaa (length (now starts)) linkage distance) (now covariance) (now starts) ⌝ }
+    requires { ⌜ Read (now text) (reading.Hcaa (length (now starts)) lines priced linkage distance) (now cells) (now starts) ⌝ }
     requires { ⌜ BlankListing (now out) ⌝ }
     ensures { λ r. ⌜ Told (now (text .entry)) (length (now (out .entry))) r (now (out .exit)) ⌝ }
 {
@@ -159,22 +174,19 @@ fn hcaa_in(
     let line = fields::piece(text, b'\n', 0);
     let said = hcaa::allocate(
         n,
-        &covariance[..0],
+        cells_if(priced, cells),
+        lent::shape_if(priced, lines, n),
+        &cells[..0],
         Shape::Absent,
-        &covariance[..0],
-        Shape::Absent,
-        covariance,
-        Shape::Of {
-            rows: n,
-            columns: n,
-        },
-        &covariance[..0],
+        cells_if(!priced, cells),
+        lent::shape_if(!priced, lines, n),
+        &cells[..0],
         false,
         fields::piece(line, b'\t', 1),
-        &text[..0],
+        b"mean",
         CONFIDENCE,
         clusters_in(line),
-        &text[..0],
+        &line[..0],
         distance,
         linkage,
         rows,
@@ -187,13 +199,15 @@ fn hcaa_in(
 
 fn by_hcaa(
     text: &[u8],
-    covariance: &[f64],
+    cells: &[f64],
     starts: &[usize],
+    lines: usize,
+    priced: bool,
     linkage: Linkage,
     distance: Distance,
     out: &mut [u8],
 ) -> Listed
-    requires { ⌜ Read (now text) (reading.Hcaa (length (now starts)) linkage distance) (now covariance) (now starts) ⌝ }
+    requires { ⌜ Read (now text) (reading.Hcaa (length (now starts)) lines priced linkage distance) (now cells) (now starts) ⌝ }
     requires { ⌜ BlankListing (now out) ⌝ }
     ensures { λ r. ⌜ Told (now (text .entry)) (length (now (out .entry))) r (now (out .exit)) ⌝ }
 {
@@ -207,38 +221,57 @@ fn by_hcaa(
         &mut weights,
         &mut scratch,
         text,
-        covariance,
+        cells,
         starts,
+        lines,
+        priced,
         linkage,
         distance,
         out,
     )
 }
 
-// The listing of a text, by way of its covariance and the places where its assets' lines begin.
-fn list_job(covariance: &mut [f64], starts: &mut [usize], text: &[u8], out: &mut [u8]) -> Listed
-    requires { ⌜ length (now covariance) ≡ 4096 ⌝ }
+// The listing of a text, by way of its cells and the places where its assets' names begin.
+fn list_job(cells: &mut [f64], starts: &mut [usize], text: &[u8], out: &mut [u8]) -> Listed
+    requires { ⌜ length (now cells) ≡ 4096 ⌝ }
     requires { ⌜ length (now starts) ≡ 64 ⌝ }
     requires { ⌜ BlankListing (now out) ⌝ }
     ensures { λ r. ⌜ Told (now (text .entry)) (length (now (out .entry))) r (now (out .exit)) ⌝ }
 {
-    let read = reading::read_job(text, covariance, starts);
+    let read = reading::read_job(text, cells, starts);
     match read {
         Reading::Refused(r) => Listed::Refused(r),
-        Reading::Hrp { assets, distance } => {
-            let cells = assets * assets;
-            by_hrp(text, &covariance[..cells], &starts[..assets], distance, out)
+        Reading::Hrp {
+            assets,
+            rows,
+            priced,
+            distance,
+        } => {
+            let k = rows * assets;
+            by_hrp(
+                text,
+                &cells[..k],
+                &starts[..assets],
+                rows,
+                priced,
+                distance,
+                out,
+            )
         }
         Reading::Hcaa {
             assets,
+            rows,
+            priced,
             linkage,
             distance,
         } => {
-            let cells = assets * assets;
+            let k = rows * assets;
             by_hcaa(
                 text,
-                &covariance[..cells],
+                &cells[..k],
                 &starts[..assets],
+                rows,
+                priced,
                 linkage,
                 distance,
                 out,
@@ -265,7 +298,7 @@ pub fn text_to_listing(text: &[u8], out: &mut [u8]) -> Listed
     if out.len() < listing::LEAST_LISTING {
         return Listed::Refused(unlisted(text.len()));
     }
-    let mut covariance = [0.0; 4096];
+    let mut cells = [0.0; 4096];
     let mut starts = [0usize; 64];
-    list_job(&mut covariance, &mut starts, text, out)
+    list_job(&mut cells, &mut starts, text, out)
 }

@@ -1,43 +1,32 @@
+-- `job::clusters_in` meets its contract. Assumes nothing.
 use mathlib.Core.Path.{sym, ap, _∙_}
-use Rattle.reading.specs.Reading.{clustersOf}
+use Rattle.heading.specs.Heading.{clustersOf}
 use Rattle.job.specs.Job.{clustersAs}
 use borrow.Author.Needs.{needs}
 use Rattle.job.proofs.clusters_in.Statement.{statement}
 use Rattle.job.proofs.clusters_in.Tie as tie
-use Rattle.job.proofs.clusters_in.Reads as reads
-use Rattle.job.proofs.clusters_in.Lts as lts
-use Rattle.fields.proofs.piece.Reads as piece-reads
-use Rattle.reading.proofs.clusters_asked.Reads as clusters-asked-reads
 
--- src/lib.rt:340:41
 piece-requires : tie.Need-piece-requires
 piece-requires c κs = search needs
 
--- src/lib.rt:340:9
 clusters-asked-requires : tie.Need-clusters-asked-requires
 clusters-asked-requires c κs = search needs
 
--- src/lib.rt:342:29
 enum-told : tie.Need-enum-told
 enum-told c = search needs
 
--- src/lib.rt:343:23
 enum-told-2 : tie.Need-enum-told-2
 enum-told-2 c = search needs
 
--- src/lib.rt:344:22
 enum-known-asked : tie.Need-enum-known-asked
 enum-known-asked c = search needs
 
--- src/lib.rt:337:1
 returns : tie.Need-returns
 returns c = sym (ap clustersAs (ap clustersOf (sym (c .before .before .before .piece .ensures)) ∙ sym (c .before .before .clusters-asked .ensures) ∙ c .enum-told .given .1))
 
--- src/lib.rt:337:1
 returns-2 : tie.Need-returns-2
 returns-2 c = sym (ap clustersAs (ap clustersOf (sym (c .before .before .before .piece .ensures)) ∙ sym (c .before .before .clusters-asked .ensures) ∙ c .enum-told2 .given .1))
 
--- src/lib.rt:337:1
 returns-3 : tie.Need-returns-3
 returns-3 c = sym (ap clustersAs (ap clustersOf (sym (c .before .before .before .before .piece .ensures)) ∙ sym (c .before .before .before .clusters-asked .ensures) ∙ c .before .asked .given .1))
 

@@ -1,6 +1,6 @@
 -- `job::finish` meets its contract. Assumes nothing.
 use native.Mathlib.Omega.{arith}
-use mathlib.Core.Path.{refl, sym}
+use mathlib.Core.Path.{sym}
 use lib.Seq.{length-take-le}
 use Rattle.job.proofs.Ends.{few, ends-done, ends-refused}
 use borrow.Author.Needs.{needs}

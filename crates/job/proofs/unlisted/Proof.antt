@@ -1,8 +1,6 @@
 use borrow.Author.Tests.{lt-ltb, le-ltb}
 use Rattle.job.proofs.unlisted.Statement.{statement}
 use Rattle.job.proofs.unlisted.Tie as tie
-use Rattle.job.proofs.unlisted.Reads as reads
-use Rattle.job.proofs.unlisted.Lts as lts
 
 -- src/lib.rt:462:9
 returns : tie.Need-returns
