@@ -1,17 +1,18 @@
 #!/usr/bin/env python3
-"""Makes the listings that the program `sheets` must print, from document 01's words (and document 02's requests 1 and 3) alone.
+"""Makes the listings that the program `sheets` must print, from document 01's words (and document 02's requests 1, 3 and 8) alone.
 
     oracle/sheets.py            reads crates/sheets/stdin and writes crates/sheets/stdout
     oracle/sheets.py --check    writes nothing: ends with status 1 where crates/sheets/stdout is not what it makes
     oracle/sheets.py --job      reads one job text from standard input and prints what `weights` must print for it
 
-It needs Python 3.8 or newer and nothing else. The texts, parted by a byte 0, were written by hand and stand in crates/sheets/stdin alone.
+It needs Python 3.9 or newer and nothing else. The texts, parted by a byte 0, stand in crates/sheets/stdin alone.
 
 Sums, products and quotients are Python's doubles, which round once to nearest even; math.sqrt is correctly rounded. Nothing is taken from the Rust's
-code but what document 01 hands over to it (`Linkage::update`, the names), and nothing from the crates. A listing is followed by a line `-- 0`: `sheets`
-says there how many bytes past the listing its call left that are not zero."""
+code but what the documents hand over to it (`Linkage::update`, the names, the two tail-risk measures), and nothing from the crates. A listing is followed by
+a line `-- 0`: `sheets` says there how many bytes past the listing its call left that are not zero."""
 import math
 import os
+import re
 import struct
 import sys
 from fractions import Fraction
@@ -66,7 +67,41 @@ def bits(x):
     return "7ff8000000000000" if x != x else struct.pack(">d", x).hex()
 
 
-# ---- distances
+# ---- from prices to distances
+
+def returns_of(prices):
+    """"Returns: under 2 sampled rows is 1. price / previous - 1; the first zero price met as a denominator ends the scan with 1." Request 8: "Such a job
+    keeps every day"."""
+    if len(prices) < 2:
+        raise Refused(1)
+    if any(price == 0 for day in prices[:-1] for price in day):
+        raise Refused(1)
+    return [[price / previous - 1.0 for price, previous in zip(day, before)] for before, day in zip(prices, prices[1:])]
+
+
+def mean(terms):
+    return total(terms) / len(terms)
+
+
+def covariance(returns):
+    """"no covariance and under 2 return rows 1"; "means first, then sums of products over rows, divided by rows - 1, for i <= j, copied across". Request 8:
+    "shrinks nothing"."""
+    rows = len(returns)
+    if rows < 2:
+        raise Refused(1)
+    from_mean = [[x - m for x in column] for column, m in ((column, mean(column)) for column in zip(*returns))]
+    n = len(from_mean)
+    out = [[0.0] * n for _ in range(n)]
+    for i in range(n):
+        for j in range(i, n):
+            out[i][j] = out[j][i] = total(x * y for x, y in zip(from_mean[i], from_mean[j])) / (rows - 1)
+    return out
+
+
+def expected_returns(returns):
+    """"Expected returns: mean times 252"; request 8: "estimates by `mean`"."""
+    return [mean(column) * 252.0 for column in zip(*returns)]
+
 
 def correlations(cov):
     n = len(cov)
@@ -155,20 +190,77 @@ def cluster_variance(cov, assets):
     return most(total(terms), 0.0)
 
 
+def cluster_sharpe(cov, expected, assets):
+    """"a cluster's ratio is its weighted expectation over the root of its variance, 0 where that variance is 0"."""
+    expectation = total(w * expected[a] for w, a in zip(inverse_variance_weights(cov, assets), assets))
+    variance = cluster_variance(cov, assets)
+    return div(expectation, root(variance)) if variance > 0 else 0.0
+
+
+# request 8: "uses the double nearest 0.05 as confidence"
+CONFIDENCE = 0.05
+
+
+def quantile(values, q):
+    """Request 1: "index q*(list length - 1) worked out in double, rounded to the nearest whole, halves to even, in the list sorted ascending with -0 before
+    +0 and every NaN last"."""
+    ordered = sorted(values, key=lambda x: (1, 0.0, 0.0) if x != x else (0, x, math.copysign(1.0, x)))
+    return ordered[round(q * float(len(values) - 1))]  # round() goes to the even one of two that are as near
+
+
+def portfolio(returns, cov, assets):
+    """Each day's return: the assets' returns times their inverse-variance weights, added up in the order listed."""
+    weights = inverse_variance_weights(cov, assets)
+    return [total(day[a] * w for a, w in zip(assets, weights)) for day in returns]
+
+
+def expected_shortfall(returns, cov, assets):
+    """`cluster_expected_shortfall` of the source: minus the sum of the days at or below the quantile, over their number; 0 where there are none."""
+    days = portfolio(returns, cov, assets)
+    threshold = quantile(days, CONFIDENCE)
+    tail = [x for x in days if x <= threshold]
+    return -total(tail) / len(tail) if tail else 0.0
+
+
+def conditional_drawdown(returns, cov, assets):
+    """`cluster_conditional_drawdown` of the source: the mean of the drawdowns at or above the quantile. Request 1: "Drawdowns use 1 - confidence and count
+    the starting wealth"."""
+    wealth = [1.0]
+    for x in portfolio(returns, cov, assets):
+        wealth.append(wealth[-1] * (1.0 + x))
+    peak, drawdowns = wealth[0], []
+    for v in wealth:
+        peak = v if v > peak else peak
+        drawdowns.append((peak - v) / peak if peak > 0 else 0.0)
+    threshold = quantile(drawdowns, 1.0 - CONFIDENCE)
+    tail = [x for x in drawdowns if x >= threshold]
+    return mean(tail) if tail else 0.0
+
+
 def left_factor(left, right):
     return 1.0 - div(left, left + right + EPSILON)
 
 
-def share(cov, metric, rows, clusters):
+def share(cov, returns, metric, rows, clusters):
     n = len(cov)
     weights = [0.0] * n
+    expected = expected_returns(returns)
 
     def factor(node):
-        left, right = (cluster_variance(cov, leaves(rows, n, child)) for child in rows[node - n])
+        sides = [leaves(rows, n, child) for child in rows[node - n]]
+        left, right = (cluster_variance(cov, side) for side in sides)
         if metric == "minimum_variance":
             f = left_factor(left, right)
         elif metric == "minimum_standard_deviation":
             f = left_factor(root(left), root(right))
+        elif metric == "sharpe_ratio":
+            # "l/(l + r) when both are >= 0 and the sum > 0, else the variance factor"
+            l, r = (cluster_sharpe(cov, expected, side) for side in sides)
+            f = l / (l + r) if l >= 0 and r >= 0 and l + r > 0 else left_factor(left, right)
+        elif metric == "expected_shortfall":
+            f = left_factor(*(expected_shortfall(returns, cov, side) for side in sides))
+        elif metric == "conditional_drawdown_risk":
+            f = left_factor(*(conditional_drawdown(returns, cov, side) for side in sides))
         else:
             f = 0.5
         # "A non-finite factor is 0.5; others clamp to 0..1."
@@ -208,7 +300,7 @@ def bisect(cov, order):
     return [div(w, s) for w in weights] if s > 0 else weights
 
 
-# ---- the two allocators, of a covariance alone
+# ---- the two allocators, of a covariance alone or of prices alone
 
 SIX = ("minimum_variance", "minimum_standard_deviation", "sharpe_ratio", "equal_weighting", "expected_shortfall", "conditional_drawdown_risk")
 
@@ -219,56 +311,84 @@ def tree(cov, to_distance, by, linkage):
     return rows, leaves(rows, len(cov), 2 * len(cov) - 2)
 
 
-def hcaa(cov, metric, linkage, by, clusters):
-    n = len(cov)
+def hcaa(n, priced, cells, metric, linkage, by, clusters):
     if metric not in SIX:
         raise Refused(2)
     if n == 0:
         raise Refused(1)
-    if metric == "sharpe_ratio":
+    returns = returns_of(cells) if priced else []
+    cov = covariance(returns) if priced else cells
+    if metric == "sharpe_ratio" and not returns:
         raise Refused(4)
-    if metric in SIX[4:]:
+    if metric in SIX[4:] and not returns:
         raise Refused(16)
     if clusters is None:
         clusters = n
     if not 1 <= clusters <= n:
         raise Refused(6)
     rows, order = tree(cov, hcaa_distance, by, linkage)
-    return share(cov, metric, rows, clusters), order
+    return share(cov, returns, metric, rows, clusters), order
 
 
-def hrp(cov, by):
-    if not cov:
+def hrp(n, priced, cells, by):
+    if n == 0:
         raise Refused(1)
+    cov = covariance(returns_of(cells)) if priced else cells
     _, order = tree(cov, hrp_distance, by, "single")
     return bisect(cov, order), order
 
 
 # ---- job texts
 
+def double(cell):
+    """"each cell 16 lower-case hex digits". Request 8: "A cell may also be an optional minus, digits, an optional point with digits after it, up to 15 digits
+    in all, at least one before the point. The value is the double nearest the exact decimal, halves to even." """
+    if re.fullmatch(rb"[0-9a-f]{16}", cell):
+        return struct.unpack(">d", bytes.fromhex(cell.decode()))[0]
+    if not re.fullmatch(rb"-?[0-9]+(\.[0-9]+)?", cell) or sum(c in b"0123456789" for c in cell) > 15:
+        raise Refused(15)
+    x, exact = float(cell), Fraction(cell.decode())
+    # "Minus zero gives -0."
+    assert (math.copysign(1.0, x) < 0) == cell.startswith(b"-"), cell
+    for neighbour in (math.nextafter(x, math.inf), math.nextafter(x, -math.inf)):
+        assert abs(Fraction(x) - exact) < abs(Fraction(neighbour) - exact), cell
+    return x
+
+
 def read(text):
-    """The job of a text: the first line's fields, the names and the covariance."""
+    """The job of a text: the first line's fields, the names, whether the cells are prices, and the rows of cells."""
     if len(text) > 65536:
         raise Refused(9)
     lines = text.split(b"\n")
     # "lines ended by a newline": nothing stands after the last
     if lines.pop() != b"" or not lines:
         raise Refused(15)
-    first, *assets = [line.split(b"\t") for line in lines]
-    if first[0] == b"hrp" and len(first) == 2:
-        pass
-    elif first[0] == b"hcaa" and len(first) == 5:
-        if first[4] != b"-" and not (1 <= len(first[4]) <= 9 and all(c in b"0123456789" for c in first[4])):
-            raise Refused(15)
-    else:
+    first, *rows = [line.split(b"\t") for line in lines]
+    if first[0] not in (b"hrp", b"hcaa"):
         raise Refused(15)
-    for name, *cells in assets:
-        if not (1 <= len(name) <= 16 and all(0x21 <= c <= 0x7E for c in name)) or name in (b"order", b"refused"):
+    # "`hrp` and distance; or `hcaa`, metric, linkage, distance, clusters"; request 8: "the first line gains a last field `prices`"
+    fields = 2 if first[0] == b"hrp" else 5
+    priced = len(first) == fields + 1 and first[fields] == b"prices"
+    if len(first) != fields and not priced:
+        raise Refused(15)
+    # "clusters (1 to 9 digits, or `-` for all)"
+    if first[0] == b"hcaa" and not re.fullmatch(rb"-|[0-9]{1,9}", first[4]):
+        raise Refused(15)
+    if priced:
+        # "then a line of names, then one line of cells for each day"
+        if not rows:
             raise Refused(15)
-        if len(cells) != len(assets) or any(len(c) != 16 or any(d not in b"0123456789abcdef" for d in c) for c in cells):
+        names, *rows = rows
+    else:
+        # "Then per asset: a name .. and its covariance row"
+        names, rows = [name for name, *_ in rows], [row for _, *row in rows]
+    for name in names:
+        # "a name of 1 to 16 bytes 21 to 7e hex, not `order` or `refused`"
+        if not re.fullmatch(rb"[\x21-\x7e]{1,16}", name) or name in (b"order", b"refused"):
             raise Refused(15)
-    cov = [[struct.unpack(">d", bytes.fromhex(c.decode()))[0] for c in cells] for _, *cells in assets]
-    return first, [name for name, *_ in assets], cov
+    if any(len(row) != len(names) for row in rows):
+        raise Refused(15)
+    return first, names, priced, [[double(cell) for cell in row] for row in rows]
 
 
 def millionths(weights):
@@ -287,17 +407,20 @@ def millionths(weights):
 
 
 def listing(text):
-    first, names, cov = read(text)
+    first, names, priced, cells = read(text)
     linkage = first[2].lower().decode("latin-1") if first[0] == b"hcaa" else "single"
-    by = first[-2 if first[0] == b"hcaa" else -1].lower().decode("latin-1")
+    by = first[3 if first[0] == b"hcaa" else 1].lower().decode("latin-1")
     if linkage not in ("single", "complete", "average", "ward"):
         raise Refused(8)
     if by not in ("correlation", "distance_of_distances"):
         raise Refused(7)
+    # "then as before, the allocator's 9 for over 64 assets or 4,096 cells"
+    if len(names) > 64 or len(cells) * len(names) > 4096:
+        raise Refused(9)
     if first[0] == b"hrp":
-        weights, order = hrp(cov, by)
+        weights, order = hrp(len(names), priced, cells, by)
     else:
-        weights, order = hcaa(cov, first[1].decode("latin-1"), linkage, by, None if first[4] == b"-" else int(first[4]))
+        weights, order = hcaa(len(names), priced, cells, first[1].decode("latin-1"), linkage, by, None if first[4] == b"-" else int(first[4]))
     lines = [b"\t".join((name, bits(w).encode(), b"%d" % m)) for name, w, m in zip(names, weights, millionths(weights))]
     return b"".join(line + b"\n" for line in lines) + b"\t".join([b"order"] + [names[i] for i in order]) + b"\n"
 
