@@ -46,8 +46,9 @@ pub fn name(text: &[u8], start: usize) -> &[u8]
     if text.len() <= start {
         return &text[text.len()..];
     }
-    let e = fields::end_of(text, 10, start);
-    let line = &text[start..e];
-    let k = fields::end_of(line, 9, 0);
-    &line[..k]
+    // the tab first: it is near, and the line's end may be far
+    let e = fields::end_of(text, 9, start);
+    let field = &text[start..e];
+    let k = fields::end_of(field, 10, 0);
+    &field[..k]
 }

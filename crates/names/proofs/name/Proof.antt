@@ -7,6 +7,7 @@ use lib.ListN.{length, take, drop, drop-of-length-le}
 use lib.Seq.{drop-length, take-nil}
 use Rattle.fields.specs.Split.{firstPiece}
 use Rattle.fields.proofs.Pieces.{end-le, end-ge, cut-first, cut-front, front-length}
+use Rattle.names.proofs.Pieces.{either-first}
 use Rattle.names.proofs.name.Statement.{statement}
 use Rattle.names.proofs.name.Tie as tie
 
@@ -28,32 +29,32 @@ returns c =
 end-of-requires : tie.Need-end-of-requires
 end-of-requires c κs = search needs
 
-sub-line : tie.Need-sub-line
-sub-line c =
+sub-field : tie.Need-sub-field
+sub-field c =
     let s = c .before .before .before .args in
-    omega (arith, end-ge 10 (s .text .now) (s .start) (omega arith))
+    omega (arith, end-ge 9 (s .text .now) (s .start) (omega arith))
 
-part-line-start : tie.Need-part-line-start
-part-line-start c =
+part-field-start : tie.Need-part-field-start
+part-field-start c =
     let s = c .before .before .before .args in
-    omega (arith, end-ge 10 (s .text .now) (s .start) (omega arith))
+    omega (arith, end-ge 9 (s .text .now) (s .start) (omega arith))
 
-part-line-end : tie.Need-part-line-end
-part-line-end c =
+part-field-end : tie.Need-part-field-end
+part-field-end c =
     let s = c .before .before .before .args in
-    omega (arith, end-ge 10 (s .text .now) (s .start) (omega arith), end-le 10 (s .text .now) (s .start) (omega arith))
+    omega (arith, end-ge 9 (s .text .now) (s .start) (omega arith), end-le 9 (s .text .now) (s .start) (omega arith))
 
 end-of-requires-2 : tie.Need-end-of-requires-2
 end-of-requires-2 c κs = search needs
 
 slice-aggregate-result : tie.Need-slice-aggregate-result
-slice-aggregate-result c = rw (c .before .end-of2 .ensures) (front-length 9 _)
+slice-aggregate-result c = rw (c .before .end-of2 .ensures) (front-length 10 _)
 
 returns-2 : tie.Need-returns-2
 returns-2 c =
     let s = c .before .before .before .before .before .before .args in
-    let l = ap (λ (k : ℕ). take (k - s .start) (drop (s .start) (s .text .now))) (c .before .before .before .end-of .ensures) ∙ cut-first 10 (s .text .now) (s .start) (omega arith) in
-    rw (c .before .end-of2 .ensures) (cut-front 9 _ ∙ ap (firstPiece 9) l)
+    let l = ap (λ (k : ℕ). take (k - s .start) (drop (s .start) (s .text .now))) (c .before .before .before .end-of .ensures) ∙ cut-first 9 (s .text .now) (s .start) (omega arith) in
+    rw (c .before .end-of2 .ensures) (cut-front 10 _ ∙ ap (firstPiece 10) l ∙ either-first 10 9 (drop (s .start) (s .text .now)))
 
 pub name-spec : {M : Type 1} → statement M
 name-spec =
@@ -64,9 +65,9 @@ name-spec =
     part-result-end
     returns
     end-of-requires
-    sub-line
-    part-line-start
-    part-line-end
+    sub-field
+    part-field-start
+    part-field-end
     end-of-requires-2
     slice-aggregate-result
     returns-2)
