@@ -2,6 +2,7 @@
 use crate::buffers::{Input, Lent, Verdict};
 use crate::mirror::Mirrors;
 use crate::random::Random;
+use openquant::api::Beside;
 use openquant::nearest::Known;
 
 /// Everything that is handed over, kept from case to case.
@@ -38,10 +39,27 @@ pub struct Judged {
     pub verdict: Verdict,
 }
 
+impl Judged {
+    /// With how the unchanged source answers beside what is due.
+    pub fn beside(number: u8, beside: Beside, verdict: Verdict) -> Self {
+        let (listed, verdict) = match beside {
+            Beside::Same => (Listed::No, verdict),
+            Beside::Known(met) => (Listed::TailRisk(met), verdict),
+            Beside::Unknown => (Listed::No, verdict.and(Err("the Rust differs from document 02, and not as listed".into()))),
+        };
+        Self { number, listed, verdict }
+    }
+}
+
 pub trait Case: Sized {
     const NAME: &'static str;
 
     fn make(rng: &mut Random) -> Self;
+
+    /// Under which name it is counted.
+    fn kind(&self) -> &'static str {
+        Self::NAME
+    }
 
     /// Calls both sides, ours in buffers of junk.
     fn judge(&self, desk: &mut Desk, junk: &mut Random) -> Judged;

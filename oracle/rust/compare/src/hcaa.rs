@@ -1,7 +1,7 @@
 //! HCAA's accounts.
 use crate::account::{bytes, text, yes, Inputs, Matrix};
 use crate::buffers::{hex, number, Verdict};
-use crate::case::{plainer, weight, weight_of_rooms, Case, Desk, Judged, Listed};
+use crate::case::{plainer, weight, weight_of_rooms, Case, Desk, Judged};
 use crate::damage;
 use crate::mirror::Mirrors;
 use crate::names;
@@ -233,12 +233,7 @@ impl Case for Hcaa {
         self.lend(desk, junk);
         let ours = self.ours(desk);
         let verdict = self.compare(desk, ours, &theirs.answer);
-        let (listed, verdict) = match theirs.beside {
-            Beside::Same => (Listed::No, verdict),
-            Beside::Known(met) => (Listed::TailRisk(met), verdict),
-            Beside::Unknown => (Listed::No, verdict.and(Err("the Rust differs from document 02, and not as listed".into()))),
-        };
-        Judged { number: theirs.answer.err().map_or(0, |r| r.number), listed, verdict }
+        Judged::beside(theirs.answer.err().map_or(0, |r| r.number), theirs.beside, verdict)
     }
 
     fn mirrors(&self) -> Option<Mirrors> {

@@ -1,10 +1,13 @@
 //! Job texts to listings.
 use crate::buffers::{number, Verdict};
-use crate::case::{weight_of_rooms, Case, Desk, Judged, Listed};
+use crate::case::{weight_of_rooms, Case, Desk, Judged};
 use crate::ours::{rovignesc_listing, rovignesc_refusal_line};
 use crate::random::Random;
 use crate::sheet::{self, LISTING_ROOM};
 use crate::texts;
+
+/// What texts are called whose first line ends in `prices`.
+pub const PRICED: &str = "listing of prices";
 
 #[derive(Clone)]
 pub struct Listing {
@@ -29,8 +32,23 @@ fn line_of(refusal: u8, desk: &mut Desk, junk: &mut Random) -> Verdict {
         .and_then(|()| desk.count.holds("its bytes", count.as_slice()))
 }
 
+impl Listing {
+    /// Whether the first line ends as that of a job by prices.
+    fn is_priced(&self) -> bool {
+        self.text.split(|&b| b == b'\n').next().is_some_and(|line| line.ends_with(b"\tprices"))
+    }
+}
+
 impl Case for Listing {
     const NAME: &'static str = "listing";
+
+    fn kind(&self) -> &'static str {
+        if self.is_priced() {
+            PRICED
+        } else {
+            Self::NAME
+        }
+    }
 
     fn make(rng: &mut Random) -> Self {
         let text = texts::text(rng);
@@ -42,7 +60,9 @@ impl Case for Listing {
     }
 
     fn judge(&self, desk: &mut Desk, junk: &mut Random) -> Judged {
-        let (due, listing) = sheet::listing(&self.text, self.rooms[0], self.rooms[1]);
+        let theirs = sheet::listing(&self.text, self.rooms[0], self.rooms[1]);
+        let due = theirs.answer.as_ref().err().map_or(0, |refused| refused.number);
+        let listing = theirs.answer.unwrap_or_default();
         desk.bytes[0].set(&self.text);
         desk.listing.dirty(self.rooms[0], junk);
         desk.count.dirty(self.rooms[1], junk);
@@ -63,7 +83,7 @@ impl Case for Listing {
             .and_then(|()| desk.count.holds("bytes", count.as_slice()))
             .and_then(|()| desk.bytes[0].unchanged("text", &self.text))
             .and_then(|()| line_of(due, desk, junk));
-        Judged { number: due, listed: Listed::No, verdict }
+        Judged::beside(due, theirs.beside, verdict)
     }
 
     fn size(&self) -> usize {
@@ -84,11 +104,15 @@ impl Case for Listing {
     fn smaller(&self) -> Vec<Self> {
         let mut out = vec![Self { rooms: [LISTING_ROOM, 1], ..self.clone() }];
         let lines: Vec<&[u8]> = self.text.split_inclusive(|&b| b == b'\n').collect();
+        let narrow = |k: usize, field: usize| if k == 0 { lines[0].to_vec() } else { without(lines[k], field) };
         for gone in 1..lines.len().min(70) {
             let kept = || (0..lines.len()).filter(move |k| *k != gone);
-            let narrow = |k: usize| if k == 0 { lines[0].to_vec() } else { without(lines[k], gone) };
             out.push(Self { text: kept().flat_map(|k| lines[k].to_vec()).collect(), ..*self });
-            out.push(Self { text: kept().flat_map(narrow).collect(), ..*self });
+            out.push(Self { text: kept().flat_map(|k| narrow(k, gone)).collect(), ..*self });
+        }
+        let columns = lines.get(1).map_or(0, |line| line.split(|&b| b == b'\t').count());
+        for gone in 0..columns.min(70) {
+            out.push(Self { text: (0..lines.len()).flat_map(|k| narrow(k, gone)).collect(), ..*self });
         }
         if self.text.len() <= 400 {
             out.extend((0..self.text.len()).map(|at| {
@@ -101,7 +125,7 @@ impl Case for Listing {
     }
 }
 
-/// An asset's line without its cell for the asset of line `gone`.
+/// A line without one of its fields.
 fn without(line: &[u8], gone: usize) -> Vec<u8> {
     let (cells, end) = line.strip_suffix(b"\n").map_or((line, &b""[..]), |cells| (cells, b"\n"));
     let fields: Vec<&[u8]> = cells.split(|&b| b == b'\t').enumerate().filter(|(k, _)| *k != gone).map(|(_, field)| field).collect();

@@ -3,7 +3,7 @@
 use compare::case::{shrunk, Case, Desk, Listed};
 use compare::hcaa::Hcaa;
 use compare::hrp::Hrp;
-use compare::listing::Listing;
+use compare::listing::{Listing, PRICED};
 use compare::mirror::{Mirrors, HEADINGS};
 use compare::random::Random;
 use compare::steps::{Covariance, Leaves, Merge, Roots};
@@ -62,7 +62,7 @@ impl Tally {
         let case = C::make(rng);
         let junk = rng.bits();
         let judged = case.judge(desk, &mut Random::new(junk));
-        *self.ends.entry((C::NAME, judged.number)).or_default() += 1;
+        *self.ends.entry((case.kind(), judged.number)).or_default() += 1;
         if judged.number == 0 {
             case.mirrors().iter().for_each(|mirrors| self.note(C::NAME, mirrors));
         }
@@ -117,7 +117,7 @@ impl Tally {
     }
 
     fn tell(&self, count: u64) {
-        for name in [Hrp::NAME, Hcaa::NAME, Covariance::NAME, Merge::NAME, Leaves::NAME, Roots::NAME, Listing::NAME] {
+        for name in [Hrp::NAME, Hcaa::NAME, Covariance::NAME, Merge::NAME, Leaves::NAME, Roots::NAME, Listing::NAME, PRICED] {
             let ends: Vec<(u8, u64)> = self.ends.iter().filter(|((call, _), _)| *call == name).map(|(&(_, end), &n)| (end, n)).collect();
             let refused: String = ends.iter().filter(|(end, _)| *end > 0).map(|(end, n)| format!(" {end}:{n}")).collect();
             let done: u64 = ends.iter().filter(|(end, _)| *end == 0).map(|(_, n)| n).sum();

@@ -1,6 +1,7 @@
-//! Document 01's job text and listing, read and written here from its words alone, and the source's allocators between.
+//! The job text of documents 01 and 02 and its listing, read and written here from their words alone, and the source's allocators between.
+use crate::rules::{self, Handed};
 use nalgebra::DMatrix;
-use openquant::api::{self, Account, Distance, HcaaAccount, Linkage};
+use openquant::api::{self, Account, Beside, Distance, Due, HcaaAccount, Linkage};
 use std::cmp::Ordering;
 
 /// "Text of at most 65,536 bytes (else 9)".
@@ -13,7 +14,10 @@ pub const LISTING_ROOM: usize = 8192;
 struct Job<'a> {
     plan: Plan<'a>,
     names: Vec<&'a [u8]>,
-    covariance: Vec<f64>,
+    /// Whether its cells are prices, a row for each day, or a covariance.
+    priced: bool,
+    rows: usize,
+    cells: Vec<f64>,
 }
 
 enum Plan<'a> {
@@ -39,11 +43,14 @@ fn clusters(field: &[u8]) -> Option<Option<usize>> {
     digits.then(|| Some(field.iter().fold(0, |n, b| n * 10 + (b - b'0') as usize)))
 }
 
-/// "First line: `hrp` and distance; or `hcaa`, metric, linkage, distance, clusters".
-fn plan(line: &[u8]) -> Option<Plan<'_>> {
+/// "First line: `hrp` and distance; or `hcaa`, metric, linkage, distance, clusters"; document 02, request 8: for prices it "gains a last field `prices`".
+fn plan(line: &[u8]) -> Option<(Plan<'_>, bool)> {
+    let hcaa = |metric, linkage, distance, count| Some(Plan::Hcaa { metric, linkage, distance, clusters: clusters(count)? });
     match fields(line)[..] {
-        [b"hrp", distance] => Some(Plan::Hrp { distance }),
-        [b"hcaa", metric, linkage, distance, count] => clusters(count).map(|clusters| Plan::Hcaa { metric, linkage, distance, clusters }),
+        [b"hrp", distance] => Some((Plan::Hrp { distance }, false)),
+        [b"hrp", distance, b"prices"] => Some((Plan::Hrp { distance }, true)),
+        [b"hcaa", metric, linkage, distance, count] => Some((hcaa(metric, linkage, distance, count)?, false)),
+        [b"hcaa", metric, linkage, distance, count, b"prices"] => Some((hcaa(metric, linkage, distance, count)?, true)),
         _ => None,
     }
 }
@@ -55,7 +62,7 @@ fn is_name(field: &[u8]) -> bool {
 }
 
 /// "each cell 16 lower-case hex digits".
-fn cell(field: &[u8]) -> Option<f64> {
+fn bits(field: &[u8]) -> Option<f64> {
     if field.len() != 16 {
         return None;
     }
@@ -67,70 +74,125 @@ fn cell(field: &[u8]) -> Option<f64> {
     field.iter().try_fold(0, |bits, &b| Some(bits << 4 | digit(b)?)).map(f64::from_bits)
 }
 
-/// "lines ended by a newline, fields parted by tabs": the plan, then for each asset its name and as many cells as there are assets.
-fn read(text: &[u8]) -> Option<Job<'_>> {
-    let mut lines: Vec<&[u8]> = text.strip_suffix(b"\n")?.split(|&b| b == b'\n').collect();
-    let plan = plan(lines.remove(0))?;
-    let mut job = Job { plan, names: Vec::new(), covariance: Vec::new() };
-    for line in &lines {
+/// "an optional minus, digits, an optional point with digits after it, up to 15 digits in all, at least one before the point": the double nearest to it.
+fn decimal(field: &[u8]) -> Option<f64> {
+    let bare = field.strip_prefix(b"-").unwrap_or(field);
+    let parts: Vec<&[u8]> = bare.split(|&b| b == b'.').collect();
+    let digits = |part: &&[u8]| !part.is_empty() && part.iter().all(u8::is_ascii_digit);
+    let count: usize = parts.iter().map(|part| part.len()).sum();
+    let formed = parts.len() <= 2 && parts.iter().all(digits) && count <= 15;
+    formed.then(|| String::from_utf8_lossy(field).parse().expect("a decimal"))
+}
+
+/// "A cell of 16 lower-case hex digits keeps its old meaning, and a decimal can never have that form."
+fn cell(field: &[u8]) -> Option<f64> {
+    bits(field).or_else(|| decimal(field))
+}
+
+fn name(field: &[u8]) -> Option<&[u8]> {
+    is_name(field).then_some(field)
+}
+
+/// "Then per asset: a name .. and its covariance row": as many cells as there are assets.
+fn covariance<'a>(plan: Plan<'a>, lines: &[&'a [u8]]) -> Option<Job<'a>> {
+    let mut job = Job { plan, names: Vec::new(), priced: false, rows: lines.len(), cells: Vec::new() };
+    for line in lines {
         let fields = fields(line);
-        if fields.len() != lines.len() + 1 || !is_name(fields[0]) {
+        if fields.len() != lines.len() + 1 {
             return None;
         }
-        job.names.push(fields[0]);
+        job.names.push(name(fields[0])?);
         for field in &fields[1..] {
-            job.covariance.push(cell(field)?);
+            job.cells.push(cell(field)?);
         }
     }
     Some(job)
+}
+
+/// Document 02, request 8: "a line of names, then one line of cells for each day".
+fn prices<'a>(plan: Plan<'a>, lines: &[&'a [u8]]) -> Option<Job<'a>> {
+    let (first, days) = lines.split_first()?;
+    let names = fields(first).into_iter().map(name).collect::<Option<Vec<_>>>()?;
+    let mut cells = Vec::new();
+    for day in days {
+        let fields = fields(day);
+        if fields.len() != names.len() {
+            return None;
+        }
+        for field in fields {
+            cells.push(cell(field)?);
+        }
+    }
+    Some(Job { plan, names, priced: true, rows: days.len(), cells })
+}
+
+/// "lines ended by a newline, fields parted by tabs"; what a first line says, and its block.
+fn read(text: &[u8]) -> Option<Job<'_>> {
+    let lines: Vec<&[u8]> = text.strip_suffix(b"\n")?.split(|&b| b == b'\n').collect();
+    let (plan, priced) = plan(lines[0])?;
+    if priced {
+        prices(plan, &lines[1..])
+    } else {
+        covariance(plan, &lines[1..])
+    }
 }
 
 fn distance_named(name: &[u8]) -> Result<Distance, u8> {
     api::distance_named(&String::from_utf8_lossy(name))
 }
 
-fn hrp(assets: usize, covariance: &DMatrix<f64>, distance: &[u8]) -> Result<Answer, u8> {
-    let distance = distance_named(distance)?;
-    let account =
-        Account { assets, prices: None, returns: None, covariance: Some(covariance), resample_by: None, use_shrinkage: false, distance };
-    api::hrp_allocate(&account).map(|a| Answer { weights: a.weights, order: a.order })
-}
+impl Job<'_> {
+    /// The matrix that the allocator is handed, or "the allocator's 9 for over 64 assets or 4,096 cells".
+    fn matrix(&self) -> Result<DMatrix<f64>, u8> {
+        let columns = self.names.len();
+        let handed = |given| Handed { given, rows: self.rows, columns, len: self.cells.len() };
+        rules::account(columns, &[handed(self.priced), handed(false), handed(!self.priced)], &[], |_| [])?;
+        Ok(DMatrix::from_row_slice(self.rows, columns, &self.cells))
+    }
 
-/// A text has no return rows, so that the tail-risk metrics are the source's 16 and no confidence is looked at.
-fn hcaa(
-    assets: usize,
-    covariance: &DMatrix<f64>,
-    metric: &[u8],
-    linkage: Linkage,
-    distance: Distance,
-    clusters: Option<usize>,
-) -> Result<Answer, u8> {
-    let account = HcaaAccount {
-        assets,
-        prices: None,
-        returns: None,
-        covariance: Some(covariance),
-        expected: None,
-        metric: &String::from_utf8_lossy(metric),
-        method: "mean",
-        confidence: 0.05,
-        clusters,
-        resample_by: None,
-        distance,
-        linkage,
-    };
-    api::hcaa_allocate(&account).map(|a| Answer { weights: a.weights, order: a.order }).map_err(|r| r.number)
-}
+    /// "Such a job keeps every day, shrinks nothing".
+    fn hrp(&self, distance: Distance) -> Result<Answer, u8> {
+        let cells = self.matrix()?;
+        let account = Account {
+            assets: self.names.len(),
+            prices: self.priced.then_some(&cells),
+            returns: None,
+            covariance: (!self.priced).then_some(&cells),
+            resample_by: None,
+            use_shrinkage: false,
+            distance,
+        };
+        api::hrp_allocate(&account).map(|a| Answer { weights: a.weights, order: a.order })
+    }
 
-/// "8, 7, the allocator's".
-fn allocated(job: &Job) -> Result<Answer, u8> {
-    let n = job.names.len();
-    let covariance = DMatrix::from_row_slice(n, n, &job.covariance);
-    match job.plan {
-        Plan::Hrp { distance } => hrp(n, &covariance, distance),
-        Plan::Hcaa { metric, linkage, distance, clusters } => {
-            let linkage = api::linkage_named(&String::from_utf8_lossy(linkage))?;
-            hcaa(n, &covariance, metric, linkage, distance_named(distance)?, clusters)
+    /// "estimates by `mean` and uses the double nearest 0.05 as confidence". A covariance has no return rows: 4 by Sharpe, 16 by the tail-risk metrics.
+    fn hcaa(&self, metric: &[u8], linkage: Linkage, distance: Distance, clusters: Option<usize>) -> Result<Due<Answer>, u8> {
+        let cells = self.matrix()?;
+        let due = api::hcaa_due(&HcaaAccount {
+            assets: self.names.len(),
+            prices: self.priced.then_some(&cells),
+            returns: None,
+            covariance: (!self.priced).then_some(&cells),
+            expected: None,
+            metric: &String::from_utf8_lossy(metric),
+            method: "mean",
+            confidence: 0.05,
+            clusters,
+            resample_by: None,
+            distance,
+            linkage,
+        });
+        Ok(Due { answer: due.answer.map(|a| Answer { weights: a.weights, order: a.order }), beside: due.beside })
+    }
+
+    /// "8, 7, the allocator's".
+    fn allocated(&self) -> Result<Due<Answer>, u8> {
+        match self.plan {
+            Plan::Hrp { distance } => Ok(Due { answer: Ok(self.hrp(distance_named(distance)?)?), beside: Beside::Same }),
+            Plan::Hcaa { metric, linkage, distance, clusters } => {
+                let linkage = api::linkage_named(&String::from_utf8_lossy(linkage))?;
+                self.hcaa(metric, linkage, distance_named(distance)?, clusters)
+            }
         }
     }
 }
@@ -203,45 +265,55 @@ fn listed(job: &Job, answer: &Answer) -> Result<Vec<u8>, u8> {
     Ok(out)
 }
 
-fn done(text: &[u8]) -> Result<Vec<u8>, u8> {
-    let job = read(text).ok_or(15)?;
-    listed(&job, &allocated(&job)?)
-}
-
 /// "a refusal prints `refused`, tab, number"
 pub fn refusal_line(number: u8) -> Vec<u8> {
     format!("refused\t{number}\n").into_bytes()
 }
 
-/// "Order: 9, 15, 8, 7, the allocator's, 13", and document 02's 18, with 11 after 9. The number, or 0, and the listing: a refused text has none.
-pub fn listing(text: &[u8], room: usize, count_room: usize) -> (u8, Vec<u8>) {
+/// "Order: 9, 15, 8, 7, the allocator's, 13", and document 02's 18, with 11 after 9.
+fn due(text: &[u8], room: usize, count_room: usize) -> Result<Due<Vec<u8>>, u8> {
     if text.len() > MOST_BYTES {
-        return (9, Vec::new());
+        return Err(9);
     }
     if room < LISTING_ROOM || count_room < 1 {
-        return (11, Vec::new());
+        return Err(11);
     }
-    match done(text) {
-        Ok(listing) => (0, listing),
-        Err(number) => (number, Vec::new()),
-    }
+    let job = read(text).ok_or(15)?;
+    let Due { answer, beside } = job.allocated()?;
+    Ok(Due { answer: answer.and_then(|answer| Ok(listed(&job, &answer)?)), beside })
+}
+
+/// The listing, or its refusal; and how the unchanged source's allocator answers beside the one that document 02 expects.
+pub fn listing(text: &[u8], room: usize, count_room: usize) -> Due<Vec<u8>> {
+    due(text, room, count_room).unwrap_or_else(|number| Due { answer: Err(number.into()), beside: Beside::Same })
 }
 
 #[cfg(test)]
 mod tests {
-    use super::{listing, millionths};
+    use super::{cell, decimal, listing, millionths};
+    use crate::random::Random;
+
+    /// The number, or 0, and the listing.
+    fn said(text: &str) -> (u8, String) {
+        match listing(text.as_bytes(), 8192, 1).answer {
+            Ok(listing) => (0, String::from_utf8(listing).unwrap()),
+            Err(refused) => (refused.number, String::new()),
+        }
+    }
+
+    fn number(text: &str) -> u8 {
+        said(text).0
+    }
 
     /// Document 01's job, with other clusters.
     fn worked(clusters: &str) -> (u8, String) {
-        let text = format!(
+        said(&format!(
             "hcaa\tequal_weighting\tsingle\tcorrelation\t{clusters}
 A\t3ff0000000000000\t3fe0000000000000\t0000000000000000
 B\t3fe0000000000000\t3ff0000000000000\t0000000000000000
 C\t0000000000000000\t0000000000000000\t3ff0000000000000
 "
-        );
-        let (number, listing) = listing(text.as_bytes(), 8192, 1);
-        (number, String::from_utf8(listing).unwrap())
+        ))
     }
 
     #[test]
@@ -285,7 +357,6 @@ C\t0000000000000000\t0000000000000000\t3ff0000000000000
 
     #[test]
     fn readings() {
-        let number = |text: &str| listing(text.as_bytes(), 8192, 1).0;
         for text in ["", "\n", "hrp\tcorrelation", "HRP\tcorrelation\n", "hrp\n", "hrp\tcorrelation\t\n", "hrp\tcorrelation\n\n"] {
             assert_eq!(number(text), 15, "{text:?}");
         }
@@ -312,5 +383,127 @@ C\t0000000000000000\t0000000000000000\t3ff0000000000000
         let rows = [[one, far, none, none], [far, one, none, none], [none, none, one, none], [none, none, none, one]];
         let rows: String = rows.iter().map(|r| format!("a\t{}\n", r.join("\t"))).collect();
         assert_eq!(number(&format!("hrp\tcorrelation\n{rows}")), 13);
+    }
+
+    /// Of the whole multiples of the last binary digit's place, which is 2 to the power of -down, none is nearer to digits over 10^places.
+    fn is_nearest(x: f64, digits: u128, places: u32) -> bool {
+        let (exponent, fraction) = ((x.to_bits() >> 52 & 0x7ff) as u32, x.to_bits() & ((1 << 52) - 1));
+        let (mantissa, down) = ((fraction | 1 << 52) as u128, 1075 - exponent);
+        let tens = 10u128.pow(places);
+        let (exact, read) = (digits << (down + 1), 2 * mantissa * tens);
+        // A power of two has a nearer neighbour below it.
+        let width = if fraction == 0 && exact < read { tens / 2 } else { tens };
+        let off = exact.abs_diff(read);
+        off < width || off == width && fraction & 1 == 0
+    }
+
+    #[test]
+    fn decimals() {
+        let mut rng = Random::new(8);
+        for _ in 0..1_000_000 {
+            let (count, digits) = (1 + rng.below(15), 1 + rng.bits() % 999_999_999_999_999);
+            let digits = 1 + digits % 10u64.pow(count as u32).saturating_sub(1);
+            let places = rng.below(count);
+            let whole = format!("{digits:0count$}");
+            let (front, back) = whole.split_at(count - places);
+            let text = if back.is_empty() { front.to_owned() } else { format!("{front}.{back}") };
+            let x = decimal(text.as_bytes()).unwrap();
+            assert!(is_nearest(x, digits as u128, places as u32), "{text}");
+            assert_eq!(decimal(format!("-{text}").as_bytes()), Some(-x));
+        }
+    }
+
+    #[test]
+    fn cells() {
+        let bits = |w: &str| cell(w.as_bytes()).map(f64::to_bits);
+        for (w, due) in [
+            ("0", 0.0),
+            ("-0", -0.0),
+            ("-0.00", -0.0),
+            ("007.50", 7.5),
+            ("-12.5", -12.5),
+            ("0.05", 0.05),
+            ("999999999999999", 999_999_999_999_999.0),
+            ("0.00000000000001", 1e-14),
+            ("3ff0000000000000", 1.0),
+            ("1234567890123456", f64::from_bits(0x1234_5678_9012_3456)),
+            ("0000000000000000", 0.0),
+            ("000000000000000", 0.0),
+            ("-000000000000000", -0.0),
+        ] {
+            assert_eq!(bits(w), Some(due.to_bits()), "{w}");
+        }
+        let none = [
+            "", "-", ".", "-.", ".5", "-.5", "5.", "-5.", "+1", "--1", "1-", "1e3", "1E3", "1.2.3", "1..2", " 1", "1 ", "1\r", "1,5",
+            "1_0", "0x1",
+        ];
+        let long = [
+            "12345678901234567",
+            "-1234567890123456",
+            "123456789.0123456",
+            "0.000000000000000",
+            "3FF0000000000000",
+            "3ff000000000000",
+            "nan",
+            "inf",
+        ];
+        for w in none.iter().chain(&long) {
+            assert_eq!(bits(w), None, "{w}");
+        }
+    }
+
+    #[test]
+    fn decimals_for_hex() {
+        let text = "hcaa\tequal_weighting\tsingle\tcorrelation\t-\nA\t1\t0.5\t0\nB\t0.50\t1.0\t-0\nC\t0\t0.0\t3ff0000000000000\n";
+        assert_eq!(said(text), worked("-"));
+    }
+
+    #[test]
+    fn prices() {
+        let days = "A\tB\n1\t2\n2\t1\n1\t4.0\n";
+        let (number_of, listing) = said(&format!("hrp\tcorrelation\tprices\n{days}"));
+        assert_eq!((number_of, listing.lines().count()), (0, 3));
+        for metric in ["minimum_variance", "sharpe_ratio", "expected_shortfall", "conditional_drawdown_risk"] {
+            assert_eq!(number(&format!("hcaa\t{metric}\tward\tcorrelation\t-\tprices\n{days}")), 0);
+        }
+        for (text, due) in [
+            ("hrp\tprices\n", 7),
+            ("hrp\tprices\tprices\nA\n1\n", 7),
+            ("hrp\tprices\tprices\nA\n1\t2\n", 15),
+            ("hrp\tprices\tcorrelation\nA\n1\n", 15),
+            ("hrp\tcorrelation\tprices\tprices\nA\n1\n", 15),
+            ("hrp\tcorrelation\tPrices\nA\n1\n", 15),
+            ("hrp\tcorrelation\tprices\n", 15),
+            ("hrp\tcorrelation\tprices\n\n", 15),
+            ("hrp\tcorrelation\tprices\nA", 15),
+            ("hrp\tcorrelation\tprices\nA\torder\n", 15),
+            ("hrp\tcorrelation\tprices\nA\n", 1),
+            ("hrp\tcorrelation\tprices\nA\n1\n", 1),
+            ("hrp\tcorrelation\tprices\nA\n1\n2\n", 1),
+            ("hrp\tcorrelation\tprices\nA\n1\n2\n1\n", 0),
+            ("hrp\tcorrelation\tprices\nA\n1\n-0.0\n1\n", 1),
+            ("hrp\tcorrelation\tprices\nA\n1\n2\n1", 15),
+            ("hcaa\tx\tx\tx\tprices\nA\n1\n", 15),
+            ("hcaa\tx\tx\tx\t-\tprices\nA\n1\n", 8),
+            ("hcaa\tx\tward\tx\t-\tprices\nA\n1\n", 7),
+            ("hcaa\tx\tward\tcorrelation\t-\tprices\nA\n1\n", 2),
+            ("hcaa\tequal_weighting\tward\tcorrelation\t2\tprices\nA\n1\n2\n1\n", 6),
+        ] {
+            assert_eq!(number(text), due, "{text:?}");
+        }
+    }
+
+    #[test]
+    fn limits() {
+        let line = |cell: &str, n: usize| format!("{}\n", vec![cell; n].join("\t"));
+        let days = |head: &str, n: usize, days: usize| number(&format!("{head}\tprices\n{}{}", line("A", n), line("1", n).repeat(days)));
+        // Prices that do not move have no variance.
+        for (n, rows, due) in [(64, 64, 1), (65, 0, 9), (65, 1, 9), (64, 65, 9), (1, 4096, 1), (1, 4097, 9), (2, 2049, 9)] {
+            assert_eq!(days("hrp\tcorrelation", n, rows), due, "{n} {rows}");
+            assert_eq!(days("hrp\tx", n, rows), 7);
+            assert_eq!(days("hcaa\tx\tx\tx\t-", n, rows), 8);
+        }
+        let covariance = |n: usize| number(&format!("hrp\tcorrelation\n{}", format!("A\t{}", line("1", n)).repeat(n)));
+        assert_eq!((covariance(64), covariance(65)), (0, 9));
     }
 }
