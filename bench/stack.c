@@ -40,7 +40,8 @@ struct account {
     uint8_t text[TEXT];
 };
 static struct account none, few = {.assets = FEW, .linkage = "ward"}, many = {.assets = MOST, .linkage = "ward"},
-                      chain = {.assets = MOST, .linkage = "single"}, sheet = {.assets = LISTED}, sample;
+                      chain = {.assets = MOST, .linkage = "single"}, sheet = {.assets = LISTED}, sample,
+                      hrp_days = {.assets = LISTED}, hcaa_days = {.assets = LISTED}, tail_days = {.assets = LISTED};
 
 enum form { COVARIANCE, SKEWED, RETURNS, BOTH, PRICES, PRICES_SHRUNK };
 
@@ -169,6 +170,9 @@ static const struct job jobs[] = {
     {"merge_ward_skewed", &merge, &many, SKEWED, "", "", 0},
     {"listing_hcaa", &list, &sample, COVARIANCE, "", "", 0},
     {"listing_hrp", &list, &sheet, COVARIANCE, "", "", 0},
+    {"listing_hrp_prices", &list, &hrp_days, PRICES, "", "", 0},
+    {"listing_hcaa_prices", &list, &hcaa_days, PRICES, "", "", 0},
+    {"listing_shortfall_prices", &list, &tail_days, PRICES, "", "", 0},
 };
 
 /* A place's word is its own, so that no callee happens to write it there. */
@@ -290,6 +294,17 @@ static void write_text(struct account *a)
     a->length = (size_t)(at - (char *)a->text);
 }
 
+/* The job text of an account's prices, in decimals, after this first line. */
+static void write_days(struct account *a, const char *first)
+{
+    size_t n = a->assets;
+    char *at = (char *)a->text;
+    at += sprintf(at, "%s\tprices\n", first);
+    for (size_t i = 0; i < n; i++) at += sprintf(at, "%c%c", (char)('0' + i), i + 1 < n ? '\t' : '\n');
+    for (size_t k = 0; k < (ROWS + 1) * n; k++) at += sprintf(at, "%.2f%c", a->prices[k], (k + 1) % n ? '\t' : '\n');
+    a->length = (size_t)(at - (char *)a->text);
+}
+
 /* A line for each asset, after the first line. */
 static int read_text(struct account *a, const char *path)
 {
@@ -308,9 +323,12 @@ int main(int count, char **words)
 {
     stack = mmap(NULL, DEPTH * sizeof *stack, PROT_READ | PROT_WRITE, MAP_PRIVATE | MAP_ANONYMOUS, -1, 0);
     if (stack == MAP_FAILED || count != 2 || !read_text(&sample, words[1])) return 2;
-    if (!fill(&few) || !fill(&many) || !fill(&chain) || !fill(&sheet)) return 2;
+    if (!fill(&few) || !fill(&many) || !fill(&chain) || !fill(&sheet) || !fill(&hrp_days) || !fill(&hcaa_days) || !fill(&tail_days)) return 2;
     string_out(&chain);
     write_text(&sheet);
+    write_days(&hrp_days, "hrp\t" BETWEEN);
+    write_days(&hcaa_days, "hcaa\t" VARIANCE "\tward\t" ALIKE "\t-");
+    write_days(&tail_days, "hcaa\t" SHORTFALL "\tward\t" ALIKE "\t-");
     int right = 1;
     for (size_t i = 0; i < sizeof jobs / sizeof *jobs; i++) right &= measure(&jobs[i]);
     return !right;

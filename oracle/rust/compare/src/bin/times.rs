@@ -288,20 +288,52 @@ fn merges(rng: &mut Random) {
     }
 }
 
-/// As many assets as a job's text has room for.
-fn listing(rng: &mut Random) {
+/// The fields of each row after what its line begins with.
+fn lines(rows: std::slice::Chunks<f64>, front: impl Fn(usize) -> String, cell: impl Fn(&f64) -> String) -> String {
+    let line = |(i, row): (usize, &[f64])| format!("{}{}\n", front(i), row.iter().map(&cell).collect::<Vec<_>>().join("\t"));
+    rows.enumerate().map(line).collect()
+}
+
+fn name(asset: usize) -> String {
+    char::from(b'0' + asset as u8).to_string()
+}
+
+/// A job's text, and one that differs from it in a letter of its distance: that is refused, but only after every cell has been read.
+fn listing(what: &str, n: usize, block: &str, last: &str) {
+    let text = |distance: &str| format!("hcaa\tminimum_variance\tward\t{distance}\t-{last}\n{block}");
+    let (mut out, mut bytes) = (vec![7u8; 8192], [7usize]);
+    for (what, text, due) in [(what.to_owned(), text("correlation"), 0), (format!("{what}_read"), text("correlatiox"), 7)] {
+        // Every slice is a vector of its own.
+        let mut ours = || unsafe { rovignesc_listing(text.as_ptr(), text.len(), out.as_mut_ptr(), out.len(), bytes.as_mut_ptr(), 1) };
+        assert_eq!(ours(), due);
+        alone(&what, n, || keep(ours()));
+    }
+}
+
+/// As many assets as a job's text has room for: the same covariance in hex, and in decimals of about as many bytes, and of half as many.
+fn covariance_texts(rng: &mut Random) {
     let n = 62;
     let cells = covariance(rng, n);
-    let mut text = String::from("hcaa\tminimum_variance\tward\tcorrelation\t-\n");
-    for (i, row) in cells.chunks(n).enumerate() {
-        let row: Vec<String> = row.iter().map(|x| format!("{:016x}", x.to_bits())).collect();
-        text += &format!("{}\t{}\n", char::from(b'0' + i as u8), row.join("\t"));
+    let front = |i| format!("{}\t", name(i));
+    listing("listing", n, &lines(cells.chunks(n), front, |x| format!("{:016x}", x.to_bits())), "");
+    listing("listing_decimals_13", n, &lines(cells.chunks(n), front, |x| format!("{x:.13}")), "");
+    listing("listing_decimals_6", n, &lines(cells.chunks(n), front, |x| format!("{x:.6}")), "");
+}
+
+/// 60 days of prices in hex, and with two digits after the point.
+fn price_texts(rng: &mut Random) {
+    for n in [8, 62] {
+        let mut cells = filled(n, || rng.price());
+        for k in 0..59 * n {
+            cells.push(cells[k] * (1.0 + rng.gain()));
+        }
+        let names: Vec<String> = (0..n).map(name).collect();
+        for (what, cell) in [("listing_prices_hex", true), ("listing_prices", false)] {
+            let cell = |x: &f64| if cell { format!("{:016x}", x.to_bits()) } else { format!("{x:.2}") };
+            let days = lines(cells.chunks(n), |_| String::new(), cell);
+            listing(what, n, &format!("{}\n{days}", names.join("\t")), "\tprices");
+        }
     }
-    let (mut out, mut bytes) = (vec![7u8; 8192], [7usize]);
-    // Every slice is a vector of its own.
-    let mut ours = || unsafe { rovignesc_listing(text.as_ptr(), text.len(), out.as_mut_ptr(), out.len(), bytes.as_mut_ptr(), 1) };
-    assert_eq!(ours(), 0);
-    alone("listing", n, || keep(ours()));
 }
 
 /// A row of independent roots, none vectorized; the time is that of one.
@@ -328,6 +360,7 @@ fn main() {
         hcaa_accounts(what, metric, std::slice::from_ref(&few));
         hcaa_accounts(what, metric, std::slice::from_ref(&many));
     }
-    listing(&mut rng);
+    covariance_texts(&mut rng);
     roots(&mut rng);
+    price_texts(&mut rng);
 }
