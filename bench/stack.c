@@ -12,7 +12,7 @@
 #include "rovignesc.h"
 
 #define MOST 64                         /* assets */
-#define LISTED 62                       /* the most assets whose lines a text has room for */
+#define LISTED 62                       /* the most assets whose lines a text has room for, in hex */
 #define FEW 8
 #define ROWS 60                         /* of returns; the prices have one more */
 #define TEXT 65536                      /* bytes of a job text at most */

@@ -310,7 +310,7 @@ fn listing(what: &str, n: usize, block: &str, last: &str) {
     }
 }
 
-/// As many assets as a job's text has room for: the same covariance in hex, and in decimals of about as many bytes, and of half as many.
+/// As many assets as a text in hex has room for: the same covariance in hex, in decimals of about as many bytes, and in shorter ones.
 fn covariance_texts(rng: &mut Random) {
     let n = 62;
     let cells = covariance(rng, n);
