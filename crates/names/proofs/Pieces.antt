@@ -1,10 +1,16 @@
--- Of two bytes that end a piece, either may be looked for first. Assumes nothing.
-use Prim.Native.Nat.{ℕ}
+-- Where a piece ends; and of two bytes that end one, either may be looked for first. Assumes nothing.
+use Prim.Native.Nat.{ℕ, _≤_}
 use mathlib.Core.Path.{_≡_, refl, sym, ap, _∙_}
 use mathlib.Core.Bool.{Bool, true, false}
 use mathlib.Core.List.{List, [], _∷_}
 use lib.Dec.{eqb}
-use Rattle.fields.specs.Split.{firstPiece}
+use lib.ListN.{length}
+use Rattle.fields.specs.Split.{firstPiece, endOf}
+use Rattle.fields.proofs.Pieces.{end-le, end-ge}
+
+-- where a piece ends
+pub within : (d : ℕ) (s : List ℕ) (at e : ℕ) → at ≤ length s → e ≡ endOf d s at → (at ≤ e) × (e ≤ length s)
+within d s at e h ends = (rw ends (end-ge d s at h), rw ends (end-le d s at h))
 
 on : (d x : ℕ) (s : List ℕ) → eqb x d ≡ false → firstPiece d (x ∷ s) ≡ x ∷ firstPiece d s
 unfolding firstPiece

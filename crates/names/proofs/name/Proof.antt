@@ -1,13 +1,14 @@
 -- `names::name` meets its contract. Assumes nothing.
 use Prim.Native.Nat.{ℕ, _-_}
 use mathlib.Core.Path.{ap, _∙_}
+use native.Mathlib.Nat.{le-of-lt}
 use native.Mathlib.Omega.{arith}
 use borrow.Author.Needs.{needs}
 use lib.ListN.{length, take, drop, drop-of-length-le}
 use lib.Seq.{drop-length, take-nil}
 use Rattle.fields.specs.Split.{firstPiece}
-use Rattle.fields.proofs.Pieces.{end-le, end-ge, cut-first, cut-front, front-length}
-use Rattle.names.proofs.Pieces.{either-first}
+use Rattle.fields.proofs.Pieces.{cut-first, cut-front, front-length}
+use Rattle.names.proofs.Pieces.{within, either-first}
 use Rattle.names.proofs.name.Statement.{statement}
 use Rattle.names.proofs.name.Tie as tie
 
@@ -30,19 +31,13 @@ end-of-requires : tie.Need-end-of-requires
 end-of-requires c κs = search needs
 
 sub-field : tie.Need-sub-field
-sub-field c =
-    let s = c .before .before .before .args in
-    omega (arith, end-ge 9 (s .text .now) (s .start) (omega arith))
+sub-field c = omega (arith, within _ _ _ _ (le-of-lt (c .before .if1 .left)) (c .end-of .ensures))
 
 part-field-start : tie.Need-part-field-start
-part-field-start c =
-    let s = c .before .before .before .args in
-    omega (arith, end-ge 9 (s .text .now) (s .start) (omega arith))
+part-field-start c = omega (arith, within _ _ _ _ (le-of-lt (c .before .if1 .left)) (c .end-of .ensures))
 
 part-field-end : tie.Need-part-field-end
-part-field-end c =
-    let s = c .before .before .before .args in
-    omega (arith, end-ge 9 (s .text .now) (s .start) (omega arith), end-le 9 (s .text .now) (s .start) (omega arith))
+part-field-end c = omega (arith, within _ _ _ _ (le-of-lt (c .before .if1 .left)) (c .end-of .ensures))
 
 end-of-requires-2 : tie.Need-end-of-requires-2
 end-of-requires-2 c κs = search needs
