@@ -1,2 +1,3 @@
 pub mod Sole
 pub mod Figures
+pub mod Limits
