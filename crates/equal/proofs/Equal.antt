@@ -20,7 +20,7 @@ use Rattle.arithmetic.proofs.Halves.{halves-plain, halves-units}
 use Rattle.arithmetic.proofs.OneOver.{one-over-total, one-over-nearest, share-plain, share-units}
 use Rattle.lent.specs.Count.{count, upto, overAll}
 use Rattle.lent.specs.Grid.{zeros}
-use Rattle.lent.proofs.Counting.{one-true, one-false, count-append, upto-same, upto-le, upto-add, upto-term, over-all-upto}
+use Rattle.lent.proofs.Counting.{one-true, one-false, count-append, upto-same, upto-le, upto-add, upto-term, over-all-append, over-all-upto}
 use Rattle.tree.specs.Rows.{isTree}
 use Rattle.tree.specs.Tree.{Tree, treeAt, leavesOf}
 use Rattle.tree.proofs.Order.{order-size, order-each, leaves-low}
@@ -50,11 +50,6 @@ over-all-const g u [] e = omega arith
 over-all-const g u (x ∷ xs) e =
     let first : g x ≡ u = e x (omega (arith, one-true _ (eq-eqb x x refl))) in
     omega (arith, over-all-const g u xs (λ a i. e a (omega arith)))
-
-over-all-append : (f : ℕ → ℕ) (xs ys : List ℕ) → overAll f (xs ++ ys) ≡ overAll f xs + overAll f ys
-unfolding overAll
-over-all-append f [] ys = omega arith
-over-all-append f (x ∷ xs) ys = omega (arith, over-all-append f xs ys)
 
 -- ---- numbers
 

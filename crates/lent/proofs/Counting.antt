@@ -12,7 +12,8 @@ use lib.Dec.{eqb, ltb}
 use lib.ListN.{length, getD}
 use borrow.Author.Tests.{eq-eqb, ne-eqb, lt-ltb, le-ltb, ltb-true, ltb-false}
 use Rattle.lent.specs.Count.{one, count, upto, overAll}
-use Rattle.lent.proofs.Laws.{either, same-or-not}
+use Rattle.lent.specs.Grid.{tab}
+use Rattle.lent.proofs.Laws.{either, same-or-not, tab-of}
 
 -- ---- a test as a number
 
@@ -128,6 +129,20 @@ pub over-all-snoc : (f : ℕ → ℕ) (xs : List ℕ) (y : ℕ) → overAll f (x
 unfolding overAll
 over-all-snoc f [] y = omega arith
 over-all-snoc f (x ∷ xs) y = omega (arith, over-all-snoc f xs y)
+
+pub over-all-append : (f : ℕ → ℕ) (xs ys : List ℕ) → overAll f (xs ++ ys) ≡ overAll f xs + overAll f ys
+unfolding overAll
+over-all-append f [] ys = omega arith
+over-all-append f (x ∷ xs) ys = omega (arith, over-all-append f xs ys)
+
+-- the entries of a list added up, by their places
+pub over-all-tab : (n : ℕ) (f : ℕ → ℕ) → overAll (λ x. x) (tab n f) ≡ upto f n
+unfolding tab upto overAll
+over-all-tab zero f = refl
+over-all-tab (suc n) f = over-all-snoc (λ x. x) (tab n f) (f n) ∙ ap (λ (s : ℕ). s + f n) (over-all-tab n f)
+
+pub over-all-places : (l : List ℕ) (n : ℕ) (f : ℕ → ℕ) → length l ≡ n → ((k : ℕ) → k < n → getD l k 0 ≡ f k) → overAll (λ x. x) l ≡ upto f n
+over-all-places l n f e h = ap (overAll (λ x. x)) (tab-of n f l 0 e h) ∙ over-all-tab n f
 
 -- a sum over a list goes by how often each number stands there
 weigh : (f : ℕ → ℕ) (m : ℕ) (xs : List ℕ) → ((j : ℕ) → j < length xs → getD xs j 0 < m) → overAll f xs ≡ upto (λ x. count x xs * f x) m

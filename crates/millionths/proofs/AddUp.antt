@@ -16,23 +16,13 @@ use Rattle.lent.proofs.Sums.{no-or}
 use Rattle.lent.specs.Count.{one, upto, overAll}
 use Rattle.lent.specs.Grid.{tab}
 use Rattle.lent.proofs.Laws.{either, length-tab, getD-tab, tab-of}
-use Rattle.lent.proofs.Counting.{one-true, one-false, one-le, upto-add, upto-le, over-all-snoc}
+use Rattle.lent.proofs.Counting.{one-true, one-false, one-le, upto-add, upto-le, over-all-tab, over-all-places}
 use Rattle.fractions.specs.Fractions.{wholeAt, leftAt, sooner, rankOf}
 use Rattle.fractions.proofs.Ranks.{one-mono, upto-less, upto-most}
 use Rattle.fractions.proofs.Order.{sooner-is, is-sooner, not-both, irreflexive, rank-order, ranked}
 use Rattle.millionths.specs.Meaning.{totalOf, Serves}
 use Rattle.millionths.specs.Millionths.{wholeTotal, missing, millionthsAt, millionthsIn, outOfReach, millionthsLines, millionthsOutcome}
 use Rattle.millionths.proofs.Lists.{Accepted, accepted}
-
--- ---- sums over a list, by its places
-
-sum-tab : (n : ℕ) (f : ℕ → ℕ) → totalOf (tab n f) ≡ upto f n
-unfolding tab upto overAll
-sum-tab zero f = refl
-sum-tab (suc n) f = over-all-snoc (λ x. x) (tab n f) (f n) ∙ ap (λ (s : ℕ). s + f n) (sum-tab n f)
-
-sum-places : (l : List ℕ) (n : ℕ) (f : ℕ → ℕ) → length l ≡ n → ((k : ℕ) → k < n → getD l k 0 ≡ f k) → totalOf l ≡ upto f n
-sum-places l n f e h = ap totalOf (tab-of n f l 0 e h) ∙ sum-tab n f
 
 module _ (ws : List Float) where
   abbrev rank : ℕ → ℕ
@@ -55,7 +45,7 @@ module _ (ws : List Float) where
   total-is : wholeTotal ws ≤ 1000000 → missing ws ≤ length ws → totalOf (millionthsIn ws) ≡ 1000000
   unfolding millionthsIn millionthsAt wholeTotal
   total-is under near =
-      sum-tab (length ws) (millionthsAt ws) ∙ upto-add (wholeAt ws) (λ i. one (due i)) (length ws)
+      over-all-tab (length ws) (millionthsAt ws) ∙ upto-add (wholeAt ws) (λ i. one (due i)) (length ws)
       ∙ ap (λ (k : ℕ). wholeTotal ws + k) (ranked (leftAt ws) (length ws) (missing ws) near) ∙ whole-missing under
 
   earlier : (i j : ℕ) → wholeAt ws i < wholeAt ws i + one (due i) → wholeAt ws j + one (due j) ≤ wholeAt ws j → rank i < rank j
@@ -98,7 +88,7 @@ module _ (ws : List Float) where
 
     totals : wholeTotal ws + upto (λ i. one (more i)) (length ws) ≡ 1000000
     unfolding wholeTotal
-    totals = sym (upto-add (wholeAt ws) (λ i. one (more i)) (length ws)) ∙ sym (sum-places l (length ws) (λ i. wholeAt ws i + one (more i)) (s .each) entry) ∙ s .total
+    totals = sym (upto-add (wholeAt ws) (λ i. one (more i)) (length ws)) ∙ sym (over-all-places l (length ws) (λ i. wholeAt ws i + one (more i)) (s .each) entry) ∙ s .total
 
     lacks : upto (λ i. one (more i)) (length ws) ≡ missing ws
     unfolding missing
