@@ -18,6 +18,7 @@ use borrow.Author.Tests.{ltb-true, eqb-true, eqb-false, eq-eqb, ne-eqb, lt-ltb, 
 use Rattle.lent.specs.Count.{one, count, upto, overAll}
 use Rattle.lent.proofs.Laws.{either, and-left, and-right}
 use Rattle.lent.proofs.Counting.{one-le, one-false, upto-zero, upto-ones, upto-add, upto-is}
+use Rattle.lent.proofs.Sizes.{same-test}
 use Rattle.tree.specs.Rows.{below, once, isTree, isOrder}
 
 -- ---- what `below` says of the entry at j, and back
@@ -184,3 +185,8 @@ rows-even len n p h =
     (λ e. let q : len / 2 ≡ n - 1 = eqb-true (len / 2) (n - 1) e in rw e (eq-eqb len (2 * (n - 1)) (omega arith)))
     (λ e. rw e (ne-eqb len (2 * (n - 1)) (λ q. eqb-false (len / 2) (n - 1) e (omega arith))))
     (either (eqb (len / 2) (n - 1)))
+
+-- ---- a node's id, by its half
+
+pub above-half : (n v : ℕ) → (n ≡ 0 → ⊥) → ltb (n - 1) (v / 2 + v % 2) ≡ ltb (2 * n - 2) v
+above-half n v p = same-test (n - 1) (v / 2 + v % 2) (2 * n - 2) v (λ h. omega arith) (λ h. omega arith)

@@ -166,15 +166,14 @@ fn leaves(rows: &[usize], n: usize, node: Node, out: &mut [usize]) -> usize
     l + r
 }
 
-// The node's id is above 2n − 2, or above 0 where n is 0; n is at most 64, so that 2n fits.
-fn is_above(node: Node, n: usize) -> bool
-    requires { ⌜ n ≤ 64 ⌝ }
+// The node's id is above 2n − 2, or above 0 where n is 0. By its half, rounded up: 2n could overflow.
+pub fn is_above(node: Node, n: usize) -> bool
     ensures { λ r. ⌜ r ≡ ltb (2 * n - 2) (node .0) ⌝ }
 {
     if n == 0 {
         return 0 < node.0;
     }
-    2 * n - 2 < node.0
+    n - 1 < node.0 / 2 + node.0 % 2
 }
 
 // The refusal of a leaf order into a buffer of `room`, if there is one.
