@@ -1,6 +1,6 @@
 -- What the millionths of an accepted list are: they total 1,000,000, nobody moves by more than one, the largest fractions are served first, and no other list is so. Assumes nothing.
-use Prim.Native.Nat.{ℕ, zero, suc, _+_, _≤_, _<_}
-use mathlib.Core.Path.{_≡_, refl, sym, ap, subst, _∙_}
+use Prim.Native.Nat.{ℕ, _+_, _≤_, _<_}
+use mathlib.Core.Path.{_≡_, sym, ap, subst, _∙_}
 use mathlib.Core.Bool.{Bool, true, false}
 use mathlib.Core.Logic.{_⊎_, inl, inr, ⊎-elim}
 use mathlib.Core.List.{List}
@@ -13,8 +13,7 @@ use Rattle.refusal.specs.Table.{first}
 use Rattle.refusal.specs.declared.Outcome.the-variants.{Done}
 use Rattle.refusal.proofs.Tables.{none}
 use Rattle.lent.proofs.Sums.{no-or}
-use Rattle.lent.specs.Count.{one, upto, overAll}
-use Rattle.lent.specs.Grid.{tab}
+use Rattle.lent.specs.Count.{one, upto}
 use Rattle.lent.proofs.Laws.{either, length-tab, getD-tab, tab-of}
 use Rattle.lent.proofs.Counting.{one-true, one-false, one-le, upto-add, upto-le, over-all-tab, over-all-places}
 use Rattle.fractions.specs.Fractions.{wholeAt, leftAt, sooner, rankOf}

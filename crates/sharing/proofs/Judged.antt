@@ -41,7 +41,7 @@ use Rattle.metrics.specs.declared.Splitting.the-variants as splitting
 use Rattle.metrics.specs.Split.{Inputs, splitOf}
 use Rattle.sharing.specs.Allot.{splits, spreadOf, equalOf, dealTo, ifDone, variedOf, insideOf, onward, allotted, allottedAt, downShares}
 use Rattle.sharing.specs.Down.{isSharpe, isTailRisk, otherRows, metricTailLines, DownCall, DownSizes, downSizeLines, DownRules, downRuleLines, downSizes, downRules, downGiven, downTable, downOutcome, downAnswer, downWeights}
-use Rattle.sharing.specs.Inner.{Below, Front, Blank, Down}
+use Rattle.sharing.specs.Inner.{Below, Summarized, Blank, Down}
 use Rattle.metrics.specs.Inner.{Tailed}
 
 -- ---- sharing keeps the number of weights
@@ -307,7 +307,7 @@ module _ (q : DownCall) (room scratch : ℕ) where
           answered-as said Done a out (down-as-shares said-right ∙ table-pass _ _ _ (w .0) ∙ table-end) h k
           (o ∙ laid-front (q .assets) room part blank b l ∙ ap (laid pz Done room) (sym (w .1)))
 
--- ---- what `share` is lent: the root's leaves, and the front of a cleared buffer
+-- ---- what `share` is lent: the summary of the tree, and the front of a cleared buffer
 
 take-zeros : (n m : ℕ) → n ≤ m → take n (zeros m) ≡ zeros n
 take-zeros n m h =
@@ -332,12 +332,12 @@ module _ (q : DownCall) (room scratch : ℕ) (p : Right q room scratch) (blank :
   pub front-length : length (take (q .assets) blank) ≡ q .assets
   front-length = length-take-le (q .assets) blank front-fits
 
-  pub down-start : {order : List ℕ} {m : ℕ} → Front (q .rows) (q .assets) (2 * q .assets - 2) order m
-      → Down (q .metric) (q .inputs) (q .rows) (q .assets) (q .clusters) (2 * q .assets - 2) (take m order) (take (q .assets) blank)
+  pub down-start : {order firsts sizes : List ℕ} → Summarized (q .rows) (q .assets) order firsts sizes
+      → Down (q .metric) (q .inputs) (q .rows) (q .assets) (q .clusters) (2 * q .assets - 2) order firsts sizes (take (q .assets) blank)
   unfolding isSharpe
-  down-start f = record {
+  down-start s = record {
     node = root q room scratch p;
-    list = f .list;
+    summary = s;
     cut = p .cut;
     each = omega (arith, front-length);
     fed = record { expects = λ h. p .expects (ap isSharpe h) .1; tailed = right-tailed q room scratch p };

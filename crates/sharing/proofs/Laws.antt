@@ -1,5 +1,5 @@
 -- The laws of a split and of a weight dealt out, in the shape of the needs. Assumes nothing.
-use Prim.Native.Nat.{ℕ, zero, suc, _+_, _-_, _<_, _≤_}
+use Prim.Native.Nat.{ℕ, zero, suc, _+_, _-_, _*_, _<_, _≤_}
 use mathlib.Core.Path.{_≡_, refl, sym, ap, _∙_}
 use mathlib.Core.Bool.{Bool, true, false}
 use mathlib.Core.List.{List, _++_}
@@ -7,7 +7,7 @@ use native.Mathlib.Nat.{le-refl, le-antisymm}
 use native.Mathlib.Numerals.{add-one}
 use native.Mathlib.Omega.{arith}
 use lib.ListN.{length, getD, set, take, drop, drop-of-length-le, replicate-append-replicate}
-use lib.Seq.{drop-cons, take-at, length-take-le}
+use lib.Seq.{drop-cons, length-take-le}
 use lib.Ieee.{Float, nan, binary64, mul}
 use Rattle.arithmetic.specs.Constants.{pz}
 use Rattle.refusal.specs.declared.Refusal.{Refusal}
@@ -19,9 +19,14 @@ use Rattle.lent.specs.declared.Answer.the-variants as answer
 use Rattle.lent.proofs.Laws.{getD-over, drop-replicate}
 use Rattle.lent.proofs.Sizes.{laid-done, within-limit}
 use Rattle.tree.specs.Tree.{leavesOf}
-use Rattle.tree.specs.Order.{orderAnswer, orderLaid}
+use Rattle.tree.specs.Order.{orderLaid}
 use Rattle.tree.proofs.Order.{leaves-few, leaves-low}
-use Rattle.tree.proofs.Answer.{Ordered, order-answered, order-laid}
+use Rattle.tree.proofs.Answer.{order-laid}
+use Rattle.branches.specs.Branch.{firstOf, sizeOf}
+use Rattle.branches.specs.Summary.{summaryOutcome, summaryLaid}
+use Rattle.branches.specs.Inner.{Rooted}
+use Rattle.branches.proofs.Answer.{summary-passes}
+use Rattle.branches.proofs.Sheet.{members-are}
 use Rattle.clusters.specs.Clusters.{nth, shares, sharesOutcome, sharesAnswer, sharesLaid}
 use Rattle.clusters.specs.Shares.{none, some}
 use Rattle.clusters.proofs.Laws.{length-shares}
@@ -33,7 +38,7 @@ use Rattle.metrics.specs.Split.{Inputs, splitOf, splitAnswer}
 use Rattle.metrics.specs.Inner.{Fed}
 use Rattle.metrics.proofs.Laws.{split-known}
 use Rattle.sharing.specs.Allot.{spreadOf, dealTo, variedOf}
-use Rattle.sharing.specs.Inner.{Below, Front, Dealt, Blank}
+use Rattle.sharing.specs.Inner.{Below, Summarized, Dealt, Blank}
 
 -- ---- the split of two sides, in the front of a scratch that is zero
 
@@ -68,29 +73,33 @@ module _ {scratch : List Float} (b : Blank scratch) {m : ℕ} (h : m ≤ 4097) w
 pub blank-still : {scratch after : List Float} → Blank scratch → after ≡ scratch → Blank after
 blank-still b e = rw e b
 
--- ---- the leaves of a node, in a buffer of 64
+-- ---- the leaves of a node
 
 module _ {rows : List ℕ} {n v : ℕ} (p : Below rows n v) where
-  pub fits-64 : length (leavesOf rows n v) ≤ 64
+  fits-64 : length (leavesOf rows n v) ≤ 64
   fits-64 = omega (arith, leaves-few rows n (p .on .tree) (p .on .some) v (p .on .node), p .most)
-
-  ordered : Ordered rows n v 64
-  ordered = record { most = p .most; roomy = p .most; on = p .on }
-
-  pub front : (room m k : ℕ) (after : List ℕ) → room ≡ 64 → orderAnswer rows n v room ≡ answer.Matrix k m → after ≡ orderLaid rows n v room → Front rows n v after m
-  front room m k after e a o =
-      let q : answer.Matrix 1 (length (leavesOf rows n v)) ≡ answer.Matrix k m = sym (order-answered ordered) ∙ ap (orderAnswer rows n v) (sym e) ∙ a in
-      let s : length (leavesOf rows n v) ≡ m = cc in
-      let l : after ≡ leavesOf rows n v ++ noughts (64 - length (leavesOf rows n v)) = o ∙ ap (orderLaid rows n v) e ∙ order-laid ordered in
-      record { few = omega (arith, fits-64); list = rw l (take-at (leavesOf rows n v) _ m s) }
-
-  pub front-not : {A : Type 0} (room : ℕ) (r : Refusal) → room ≡ 64 → orderAnswer rows n v room ≡ answer.Refused r → A
-  front-not room r e a =
-      let q : answer.Matrix 1 (length (leavesOf rows n v)) ≡ answer.Refused r = sym (order-answered ordered) ∙ ap (orderAnswer rows n v) (sym e) ∙ a in
-      absurd (let z : _≡_ {A = ℕ} 0 1 = cc in omega arith)
 
   pub leaves-dealt : (m : ℕ) → n ≤ m → Dealt (leavesOf rows n v) m
   leaves-dealt m h = record { few = fits-64; each = λ j l. omega (arith, leaves-low rows n (p .on .tree) (p .on .some) v (p .on .node) j l) }
+
+-- ---- the order in a buffer of 64, and the summary in lists of 127
+
+module _ {rows : List ℕ} {n : ℕ} (p : Below rows n (2 * n - 2)) where
+  rooted : Rooted rows n
+  rooted = record { some = p .on .some; tree = p .on .tree }
+
+  nodes-fit : (m : ℕ) → m ≡ 127 → 2 * n - 1 ≤ m
+  nodes-fit m e = omega (arith, p .most)
+
+  pub summarized : (order firsts sizes : List ℕ) (said : Outcome) (a b c d : ℕ) → a ≡ 64 → b ≡ 127 → c ≡ 127 → d ≡ 127 → order ≡ orderLaid rows n (2 * n - 2) a
+      → said ≡ summaryOutcome rows n b c d → firsts ≡ summaryLaid (firstOf rows n) said n b → sizes ≡ summaryLaid (sizeOf rows n) said n c → Summarized rows n order firsts sizes
+  summarized order firsts sizes said a b c d ea eb ec ed o e f s =
+      let all = leavesOf rows n (2 * n - 2) in
+      let done : said ≡ Done = e ∙ summary-passes (record { most = p .most; one = nodes-fit b eb; two = nodes-fit c ec; three = nodes-fit d ed; rooted = rooted }) in
+      let o′ : order ≡ all ++ noughts (64 - length all) = o ∙ ap (orderLaid rows n (2 * n - 2)) ea ∙ order-laid (record { most = p .most; roomy = p .most; on = p .on }) in
+      let f′ : firsts ≡ summaryLaid (firstOf rows n) Done n b = f ∙ ap (λ (r : Outcome). summaryLaid (firstOf rows n) r n b) done in
+      let s′ : sizes ≡ summaryLaid (sizeOf rows n) Done n c = s ∙ ap (λ (r : Outcome). summaryLaid (sizeOf rows n) r n c) done in
+      record { part = λ v h. rw (o′, f′, s′) (members-are rooted (p .most) (noughts (64 - length all)) b c v h) }
 
 -- ---- one weight to each
 

@@ -13,19 +13,18 @@ use tree::Asset;
 use tree::Node;
 ghost use mathlib.Core.Path.{_≡_};
 ghost use mathlib.Core.Bool.{true};
-ghost use Prim.Native.Nat.{_+_, _<_, _≤_};
+ghost use Prim.Native.Nat.{_+_, _-_, _*_, _<_, _≤_};
 ghost use lib.ListN.{length, set};
 ghost use Rattle.refusal.specs.Table.{first};
 ghost use Rattle.refusal.specs.declared.Refusal.the-variants.{NoData};
 ghost use Rattle.lent.specs.declared.Answer.the-variants as answer;
-ghost use Rattle.tree.specs.Tree.{leavesOf};
 ghost use Rattle.lent.specs.Grid.{zeros};
 ghost use Rattle.clusters.specs.Inner.{told};
 ghost use Rattle.metrics.specs.Split.{splitOf};
 ghost use Rattle.metrics.specs.Inner.{inputs, Fed};
 ghost use Rattle.sharing.specs.Allot.{spreadOf, equalOf, dealTo, variedOf, insideOf, allottedAt};
 ghost use Rattle.sharing.specs.Down.{isTailRisk, downSizeLines, downRuleLines, downAnswer, downWeights};
-ghost use Rattle.sharing.specs.Inner.{Below, Front, Dealt, Blank, Down};
+ghost use Rattle.sharing.specs.Inner.{Below, Summarized, Dealt, Blank, Down};
 
 // The numbers that stay the same on the whole way down.
 struct Plan {
@@ -81,33 +80,23 @@ fn split_at(
     )
 }
 
-// Writes the leaves below a node to the front of out, and says how many there are.
-fn leaves(rows: &[usize], n: usize, node: Node, out: &mut [usize]) -> usize
-    requires { ⌜ Below (now rows) n (node .0) ⌝ }
-    requires { ⌜ length (now out) ≡ 64 ⌝ }
-    ensures { λ r. ⌜ Front (now (rows .entry)) n (node .0) (now (out .exit)) r ⌝ }
+// The leaf order, and beside it each node's first place and size.
+fn order_leaves(
+    rows: &[usize],
+    n: usize,
+    order: &mut [usize],
+    firsts: &mut [usize],
+    sizes: &mut [usize],
+)
+    requires { ⌜ Below (now rows) n (2 * n - 2) ⌝ }
+    requires { ⌜ length (now order) ≡ 64 ⌝ }
+    requires { ⌜ length (now firsts) ≡ 127 ⌝ }
+    requires { ⌜ length (now sizes) ≡ 127 ⌝ }
+    ensures { λ _. ⌜ Summarized (now (rows .entry)) n (now (order .exit)) (now (firsts .exit)) (now (sizes .exit)) ⌝ }
 {
-    match tree::quasi_diagonalization(rows, n, node, out) {
-        Answer::Matrix { rows: _, columns } => columns,
-        Answer::Refused(_) => 0,
-    }
-}
-
-// How many leaves are below a node.
-fn leaf_count(rows: &[usize], n: usize, node: Node) -> usize
-    requires { ⌜ Below (now rows) n (node .0) ⌝ }
-    ensures { λ r. ⌜ r ≡ length (leavesOf (now (rows .entry)) n (node .0)) ⌝ }
-{
-    let at = node.0;
-    if at < n {
-        return 1;
-    }
-    let k = at - n;
-    let a = rows[2 * k];
-    let b = rows[2 * k + 1];
-    let l = leaf_count(rows, n, Node(a));
-    let r = leaf_count(rows, n, Node(b));
-    l + r
+    tree::quasi_diagonalization(rows, n, Node(2 * n - 2), order);
+    let mut depths = [0usize; 127];
+    branches::summarize(rows, n, firsts, sizes, &mut depths);
 }
 
 // Gives an asset its weight.
@@ -203,7 +192,7 @@ fn inside(
     }
 }
 
-// Shares a weight out below a node, whose leaves are the members; false where a side, or a cut cluster, is refused.
+// Shares a weight out below a node; false where a side, or a cut cluster, is refused. A node's members are looked up in the order.
 fn share(
     metric: Metric,
     plan: Plan,
@@ -211,14 +200,16 @@ fn share(
     returns: &[f64],
     cov: &[f64],
     rows: &[usize],
+    order: &[usize],
+    firsts: &[usize],
+    sizes: &[usize],
     node: Node,
-    members: &[usize],
     weight: f64,
     weights: &mut [f64],
     scratch: &mut [f64],
 ) -> bool
     requires { ⌜ Down metric (inputs (now expected) (now returns) (plan .periods) (plan .confidence))
-        (now rows) (plan .n) (plan .clusters) (node .0) (now members) (now weights) ⌝ }
+        (now rows) (plan .n) (plan .clusters) (node .0) (now order) (now firsts) (now sizes) (now weights) ⌝ }
     requires { ⌜ Blank (now scratch) ⌝ }
     ensures { λ r. ⌜ told r (now (weights .exit))
         ≡ allottedAt metric (inputs (now (expected .entry)) (now (returns .entry)) (plan .periods) (plan .confidence))
@@ -236,11 +227,13 @@ fn share(
     }
     let k = at - n;
     if k + clusters < n {
+        let members = branches::members(order, firsts, sizes, n, node);
         return inside(metric, cov, n, members, weight, weights);
     }
     let a = rows[2 * k];
     let b = rows[2 * k + 1];
-    let l = leaf_count(rows, n, Node(a));
+    let left = branches::members(order, firsts, sizes, n, Node(a));
+    let right = branches::members(order, firsts, sizes, n, Node(b));
     let Splitting::By(s) = split_at(
         metric,
         expected,
@@ -249,8 +242,8 @@ fn share(
         confidence,
         cov,
         n,
-        &members[..l],
-        &members[l..],
+        left,
+        right,
         scratch,
     ) else {
         return false;
@@ -263,8 +256,10 @@ fn share(
         returns,
         cov,
         rows,
+        order,
+        firsts,
+        sizes,
         Node(a),
-        &members[..l],
         weight * f,
         weights,
         scratch,
@@ -278,8 +273,10 @@ fn share(
         returns,
         cov,
         rows,
+        order,
+        firsts,
+        sizes,
         Node(b),
-        &members[l..],
         weight * (1.0 - f),
         weights,
         scratch,
@@ -457,7 +454,9 @@ pub fn allocate_down_tree(
     };
     let root = Node(2 * n - 2);
     let mut order = [0usize; 64];
-    let m = leaves(rows, n, root, &mut order);
+    let mut firsts = [0usize; 127];
+    let mut node_sizes = [0usize; 127];
+    order_leaves(rows, n, &mut order, &mut firsts, &mut node_sizes);
     let plan = Plan {
         periods: return_rows,
         confidence,
@@ -471,8 +470,10 @@ pub fn allocate_down_tree(
         returns,
         covariance,
         rows,
+        &order,
+        &firsts,
+        &node_sizes,
         root,
-        &order[..m],
         1.0,
         &mut out[..n],
         scratch,

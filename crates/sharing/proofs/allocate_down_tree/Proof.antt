@@ -3,7 +3,6 @@ use mathlib.Core.Path.{_≡_, refl, sym, _∙_}
 use native.Mathlib.Omega.{arith}
 use borrow.Author.Tests.{not-true, not-false}
 use lib.ListN.{length}
-use lib.Seq.{length-take-le}
 use Rattle.refusal.specs.Table.{first}
 use Rattle.metrics.specs.Inner.{inputs}
 use Rattle.sharing.specs.Down.{DownCall, downGiven}
@@ -58,34 +57,43 @@ returns c =
     let d = down-refused _ _ _ _ (judged (c .before .before .before .before .before .before .before .before .before .before .before)) _ _ _ (c .before .enum-told2 .given .1) (c .answered .ensures) (c .before .before .before .before .before .before .before .before .before .clear .ensures) in
     (d .0, (d .1, c .before .before .before .before .before .clear2 .ensures))
 
-mul-t26 : tie.Need-mul-t26
-mul-t26 c = let p = said-right _ _ _ _ (judged (c .before .before .before .before .before .before .before .before .before .before)) (c .enum-told .given .1) in omega (arith, p .most)
+mul-t27 : tie.Need-mul-t27
+mul-t27 c = omega (arith, (said-right _ _ _ _ (judged (c .before .before .before .before .before .before .before .before .before .before)) (c .enum-told .given .1)) .most)
 
-sub-t24 : tie.Need-sub-t24
-sub-t24 c = let p = said-right _ _ _ _ (judged (c .before .before .before .before .before .before .before .before .before .before)) (c .enum-told .given .1) in omega (arith, p .some)
+sub-t25 : tie.Need-sub-t25
+sub-t25 c = omega (arith, (said-right _ _ _ _ (judged (c .before .before .before .before .before .before .before .before .before .before)) (c .enum-told .given .1)) .some)
 
-slice-aggregate-leaves : tie.Need-slice-aggregate-leaves
-slice-aggregate-leaves c = search needs
+slice-aggregate-order-leaves : tie.Need-slice-aggregate-order-leaves
+slice-aggregate-order-leaves c = search needs
 
-leaves-requires : tie.Need-leaves-requires
-leaves-requires c κs = (root _ _ _ (said-right _ _ _ _ (judged (c .before .before .before .before .before .before .before .before .before .before .before)) (c .before .enum-told .given .1)), refl)
+slice-aggregate-order-leaves-2 : tie.Need-slice-aggregate-order-leaves-2
+slice-aggregate-order-leaves-2 c = search needs
 
-array-share-prefix-order : tie.Need-array-share-prefix-order
-array-share-prefix-order c = omega (arith, c .before .leaves .ensures .few, c .before .leaves .kept .1 .1 .1 .0)
+slice-aggregate-order-leaves-3 : tie.Need-slice-aggregate-order-leaves-3
+slice-aggregate-order-leaves-3 c = search needs
+
+order-leaves-requires : tie.Need-order-leaves-requires
+order-leaves-requires c κs = (root _ _ _ (said-right _ _ _ _ (judged (c .before .before .before .before .before .before .before .before .before .before .before .before .before)) (c .before .before .before .enum-told .given .1)), (refl, (refl, refl)))
 
 slice-aggregate-share : tie.Need-slice-aggregate-share
-slice-aggregate-share c = sym (length-take-le (c .before .before .leaves .result) (c .before .before .leaves .last .1 .1 .1 .0) (omega (arith, c .before .before .leaves .ensures .few, c .before .before .leaves .kept .1 .1 .1 .0)))
-
-slice-relend-prefix-share : tie.Need-slice-relend-prefix-share
-slice-relend-prefix-share c = front-fits _ _ _ (said-right _ _ _ _ (judged (c .before .before .before .before .before .before .before .before .before .before .before .before .before .before)) (c .before .before .before .before .enum-told .given .1)) _ (c .before .before .before .before .before .before .before .before .before .before .before .before .clear .ensures)
+slice-aggregate-share c = sym (c .before .before .before .before .order-leaves .kept .1 .1 .0)
 
 slice-aggregate-share-2 : tie.Need-slice-aggregate-share-2
-slice-aggregate-share-2 c = sym (front-length _ _ _ (said-right _ _ _ _ (judged (c .before .before .before .before .before .before .before .before .before .before .before .before .before .before .before)) (c .before .before .before .before .before .enum-told .given .1)) _ (c .before .before .before .before .before .before .before .before .before .before .before .before .before .clear .ensures))
+slice-aggregate-share-2 c = sym (c .before .before .before .before .before .order-leaves .kept .1 .1 .1 .0)
+
+slice-aggregate-share-3 : tie.Need-slice-aggregate-share-3
+slice-aggregate-share-3 c = sym (c .before .before .before .before .before .before .order-leaves .kept .1 .1 .1 .1 .0)
+
+slice-relend-prefix-share : tie.Need-slice-relend-prefix-share
+slice-relend-prefix-share c = front-fits _ _ _ (said-right _ _ _ _ (judged (c .before .before .before .before .before .before .before .before .before .before .before .before .before .before .before .before .before .before .before .before)) (c .before .before .before .before .before .before .before .before .before .before .enum-told .given .1)) _ (c .before .before .before .before .before .before .before .before .before .before .before .before .before .before .before .before .before .before .clear .ensures)
+
+slice-aggregate-share-4 : tie.Need-slice-aggregate-share-4
+slice-aggregate-share-4 c = sym (front-length _ _ _ (said-right _ _ _ _ (judged (c .before .before .before .before .before .before .before .before .before .before .before .before .before .before .before .before .before .before .before .before .before)) (c .before .before .before .before .before .before .before .before .before .before .before .enum-told .given .1)) _ (c .before .before .before .before .before .before .before .before .before .before .before .before .before .before .before .before .before .before .before .clear .ensures))
 
 share-requires : tie.Need-share-requires
 share-requires c κs =
-    let p = said-right _ _ _ _ (judged (c .before .before .before .before .before .before .before .before .before .before .before .before .before .before .before .before)) (c .before .before .before .before .before .before .enum-told .given .1) in
-    (down-start _ _ _ p _ (c .before .before .before .before .before .before .before .before .before .before .before .before .before .before .clear .ensures) (c .before .before .before .before .leaves .ensures), cleared-blank _ (p .enough) (c .before .before .before .before .before .before .before .before .before .before .clear2 .ensures))
+    let p = said-right _ _ _ _ (judged (c .before .before .before .before .before .before .before .before .before .before .before .before .before .before .before .before .before .before .before .before .before .before)) (c .before .before .before .before .before .before .before .before .before .before .before .before .enum-told .given .1) in
+    (down-start _ _ _ p _ (c .before .before .before .before .before .before .before .before .before .before .before .before .before .before .before .before .before .before .before .before .clear .ensures) (c .before .before .before .before .before .before .before .before .order-leaves .ensures), cleared-blank _ (p .enough) (c .before .before .before .before .before .before .before .before .before .before .before .before .before .before .before .before .clear2 .ensures))
 
 refused-requires : tie.Need-refused-requires
 refused-requires c κs = search needs
@@ -94,13 +102,13 @@ same-length-3 : tie.Need-same-length-3
 same-length-3 c = search needs
 
 same-length-4 : tie.Need-same-length-4
-same-length-4 c = c .before .before .before .before .before .before .before .before .before .share .kept .1 .1 .1 .1 .1 .1 .1 .1 .1 .1 .0 ∙ c .before .before .before .before .before .before .before .before .before .before .before .before .before .before .before .before .before .before .before .before .clear2 .kept .0
+same-length-4 c = c .before .before .before .before .before .before .before .before .before .share .kept .1 .1 .1 .1 .1 .1 .1 .1 .1 .1 .1 .1 .0 ∙ c .before .before .before .before .before .before .before .before .before .before .before .before .before .before .before .before .before .before .before .before .before .before .before .before .before .before .clear2 .kept .0
 
 returns-2 : tie.Need-returns-2
 returns-2 c =
-    let p = said-right _ _ _ _ (judged (c .before .before .before .before .before .before .before .before .before .before .before .before .before .before .before .before .before .before .before .before .before .before .before .before .before .before)) (c .before .before .before .before .before .before .before .before .before .before .before .before .before .before .before .before .enum-told .given .1) in
-    let d = down-none _ _ _ _ (judged (c .before .before .before .before .before .before .before .before .before .before .before .before .before .before .before .before .before .before .before .before .before .before .before .before .before .before)) (c .before .before .before .before .before .before .before .before .before .before .before .before .before .before .before .before .enum-told .given .1) (c .before .before .before .before .before .before .before .before .before .share .result) (c .before .before .before .before .before .before .before .before .before .share .last .1 .1 .1 .1 .1 .1 .1 .1 .1 .0) _ _ (down-shared _ _ _ p _ (c .before .before .before .before .before .before .before .before .before .before .before .before .before .before .before .before .before .before .before .before .before .before .before .before .clear .ensures) _ (c .before .before .before .before .before .before .before .before .before .share .ensures .0)) (not-true (c .before .before .before .before .before .before .before .before .before .share .result) (c .before .before .before .before .if1 .taken)) (c .before .before .refused .ensures .1) (whole-length _ _ _ p _ (c .before .before .before .before .before .before .before .before .before .before .before .before .before .before .before .before .before .before .before .before .before .before .before .before .clear .ensures) (c .before .before .before .before .before .before .before .before .before .share .last .1 .1 .1 .1 .1 .1 .1 .1 .1 .0) (c .before .before .before .before .before .before .before .before .before .share .kept .1 .1 .1 .1 .1 .1 .1 .1 .1 .0)) in
-    (c .before .before .refused .ensures .0 ∙ d .0, (d .1, c .before .before .before .before .before .before .before .before .before .share .ensures .1 ∙ c .before .before .before .before .before .before .before .before .before .before .before .before .before .before .before .before .before .before .before .before .clear2 .ensures))
+    let p = said-right _ _ _ _ (judged (c .before .before .before .before .before .before .before .before .before .before .before .before .before .before .before .before .before .before .before .before .before .before .before .before .before .before .before .before .before .before .before .before)) (c .before .before .before .before .before .before .before .before .before .before .before .before .before .before .before .before .before .before .before .before .before .before .enum-told .given .1) in
+    let d = down-none _ _ _ _ (judged (c .before .before .before .before .before .before .before .before .before .before .before .before .before .before .before .before .before .before .before .before .before .before .before .before .before .before .before .before .before .before .before .before)) (c .before .before .before .before .before .before .before .before .before .before .before .before .before .before .before .before .before .before .before .before .before .before .enum-told .given .1) (c .before .before .before .before .before .before .before .before .before .share .result) (c .before .before .before .before .before .before .before .before .before .share .last .1 .1 .1 .1 .1 .1 .1 .1 .1 .1 .1 .0) _ _ (down-shared _ _ _ p _ (c .before .before .before .before .before .before .before .before .before .before .before .before .before .before .before .before .before .before .before .before .before .before .before .before .before .before .before .before .before .before .clear .ensures) _ (c .before .before .before .before .before .before .before .before .before .share .ensures .0)) (not-true (c .before .before .before .before .before .before .before .before .before .share .result) (c .before .before .before .before .if1 .taken)) (c .before .before .refused .ensures .1) (whole-length _ _ _ p _ (c .before .before .before .before .before .before .before .before .before .before .before .before .before .before .before .before .before .before .before .before .before .before .before .before .before .before .before .before .before .before .clear .ensures) (c .before .before .before .before .before .before .before .before .before .share .last .1 .1 .1 .1 .1 .1 .1 .1 .1 .1 .1 .0) (c .before .before .before .before .before .before .before .before .before .share .kept .1 .1 .1 .1 .1 .1 .1 .1 .1 .1 .1 .0)) in
+    (c .before .before .refused .ensures .0 ∙ d .0, (d .1, c .before .before .before .before .before .before .before .before .before .share .ensures .1 ∙ c .before .before .before .before .before .before .before .before .before .before .before .before .before .before .before .before .before .before .before .before .before .before .before .before .before .before .clear2 .ensures))
 
 answered-requires-2 : tie.Need-answered-requires-2
 answered-requires-2 c κs = search needs
@@ -109,13 +117,13 @@ same-length-5 : tie.Need-same-length-5
 same-length-5 c = search needs
 
 same-length-6 : tie.Need-same-length-6
-same-length-6 c = c .before .before .before .before .before .before .share .kept .1 .1 .1 .1 .1 .1 .1 .1 .1 .1 .0 ∙ c .before .before .before .before .before .before .before .before .before .before .before .before .before .before .before .before .before .clear2 .kept .0
+same-length-6 c = c .before .before .before .before .before .before .share .kept .1 .1 .1 .1 .1 .1 .1 .1 .1 .1 .1 .1 .0 ∙ c .before .before .before .before .before .before .before .before .before .before .before .before .before .before .before .before .before .before .before .before .before .before .before .clear2 .kept .0
 
 returns-3 : tie.Need-returns-3
 returns-3 c =
-    let p = said-right _ _ _ _ (judged (c .before .before .before .before .before .before .before .before .before .before .before .before .before .before .before .before .before .before .before .before .before .before .before)) (c .before .before .before .before .before .before .before .before .before .before .before .before .before .enum-told .given .1) in
-    let d = down-some _ _ _ _ (judged (c .before .before .before .before .before .before .before .before .before .before .before .before .before .before .before .before .before .before .before .before .before .before .before)) (c .before .before .before .before .before .before .before .before .before .before .before .before .before .enum-told .given .1) (c .before .before .before .before .before .before .share .result) (c .before .before .before .before .before .before .share .last .1 .1 .1 .1 .1 .1 .1 .1 .1 .0) _ _ _ (down-shared _ _ _ p _ (c .before .before .before .before .before .before .before .before .before .before .before .before .before .before .before .before .before .before .before .before .before .clear .ensures) _ (c .before .before .before .before .before .before .share .ensures .0)) (not-false (c .before .before .before .before .before .before .share .result) (c .before .if1 .left)) (c .answered2 .ensures) (c .before .before .before .before .before .before .before .before .before .before .before .before .before .before .before .before .before .before .before .before .before .clear .ensures) refl (part-length _ _ _ p _ (c .before .before .before .before .before .before .before .before .before .before .before .before .before .before .before .before .before .before .before .before .before .clear .ensures) (c .before .before .before .before .before .before .share .last .1 .1 .1 .1 .1 .1 .1 .1 .1 .0) (c .before .before .before .before .before .before .share .kept .1 .1 .1 .1 .1 .1 .1 .1 .1 .0)) in
-    (d .0, (d .1, c .before .before .before .before .before .before .share .ensures .1 ∙ c .before .before .before .before .before .before .before .before .before .before .before .before .before .before .before .before .before .clear2 .ensures))
+    let p = said-right _ _ _ _ (judged (c .before .before .before .before .before .before .before .before .before .before .before .before .before .before .before .before .before .before .before .before .before .before .before .before .before .before .before .before .before)) (c .before .before .before .before .before .before .before .before .before .before .before .before .before .before .before .before .before .before .before .enum-told .given .1) in
+    let d = down-some _ _ _ _ (judged (c .before .before .before .before .before .before .before .before .before .before .before .before .before .before .before .before .before .before .before .before .before .before .before .before .before .before .before .before .before)) (c .before .before .before .before .before .before .before .before .before .before .before .before .before .before .before .before .before .before .before .enum-told .given .1) (c .before .before .before .before .before .before .share .result) (c .before .before .before .before .before .before .share .last .1 .1 .1 .1 .1 .1 .1 .1 .1 .1 .1 .0) _ _ _ (down-shared _ _ _ p _ (c .before .before .before .before .before .before .before .before .before .before .before .before .before .before .before .before .before .before .before .before .before .before .before .before .before .before .before .clear .ensures) _ (c .before .before .before .before .before .before .share .ensures .0)) (not-false (c .before .before .before .before .before .before .share .result) (c .before .if1 .left)) (c .answered2 .ensures) (c .before .before .before .before .before .before .before .before .before .before .before .before .before .before .before .before .before .before .before .before .before .before .before .before .before .before .before .clear .ensures) refl (part-length _ _ _ p _ (c .before .before .before .before .before .before .before .before .before .before .before .before .before .before .before .before .before .before .before .before .before .before .before .before .before .before .before .clear .ensures) (c .before .before .before .before .before .before .share .last .1 .1 .1 .1 .1 .1 .1 .1 .1 .1 .1 .0) (c .before .before .before .before .before .before .share .kept .1 .1 .1 .1 .1 .1 .1 .1 .1 .1 .1 .0)) in
+    (d .0, (d .1, c .before .before .before .before .before .before .share .ensures .1 ∙ c .before .before .before .before .before .before .before .before .before .before .before .before .before .before .before .before .before .before .before .before .before .before .before .clear2 .ensures))
 
 pub allocate-down-tree-spec : {M : Type 1} → statement M
 allocate-down-tree-spec =
@@ -132,14 +140,17 @@ allocate-down-tree-spec =
     same-length
     same-length-2
     returns
-    mul-t26
-    sub-t24
-    slice-aggregate-leaves
-    leaves-requires
-    array-share-prefix-order
+    mul-t27
+    sub-t25
+    slice-aggregate-order-leaves
+    slice-aggregate-order-leaves-2
+    slice-aggregate-order-leaves-3
+    order-leaves-requires
     slice-aggregate-share
-    slice-relend-prefix-share
     slice-aggregate-share-2
+    slice-aggregate-share-3
+    slice-relend-prefix-share
+    slice-aggregate-share-4
     share-requires
     refused-requires
     same-length-3
