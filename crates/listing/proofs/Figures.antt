@@ -12,7 +12,8 @@ use Rattle.lent.specs.Count.{upto}
 use Rattle.lent.specs.Grid.{tab}
 use Rattle.fractions.specs.Fractions.{wholePart, leftOver, wholeAt, leftAt, sooner, rankOf}
 use Rattle.millionths.specs.Millionths.{wholeTotal, missing, millionthsAt, millionthsIn}
-use Rattle.listing.specs.Listing.{digitByte, digits, places, decimal, hexOf, joined, assetLine, lineOf, ordered, listing, refusalLine}
+use Rattle.writing.specs.Writing.{digitByte, digits, places, decimal, hexOf, joined}
+use Rattle.listing.specs.Listing.{assetLine, lineOf, ordered, listing, refusalLine}
 
 -- A, B, C
 abbrev name : ℕ → List ℕ
@@ -42,11 +43,6 @@ table =
     same (listing name weights order) printed
     -- no assets
     ∷ same (listing name [] []) (bytes "order" ++ n)
-    -- 0, 1, a third, all letters
-    ∷ same (decimal 0) (bytes "0")
-    ∷ same (decimal 1000000) (bytes "1000000")
-    ∷ same (hexOf 0x3fd5_5555_5555_5555) (bytes "3fd5555555555555")
-    ∷ same (hexOf 0x0123_4567_89ab_cdef) (bytes "0123456789abcdef")
     ∷ same (refusalLine 6) (bytes "refused" ++ t ++ bytes "6" ++ n)
     ∷ same (refusalLine 15) (bytes "refused" ++ t ++ bytes "15" ++ n)
     ∷ []

@@ -1,5 +1,3 @@
-pub mod Writing
-pub mod Digits
 pub mod Lines
 pub mod Sheets
 pub mod Tellings

@@ -2,10 +2,10 @@
 use Prim.Native.Nat.{ℕ, _+_, _-_, _≤_, _<_}
 use mathlib.Core.Path.{_≡_, refl, sym, ap, _∙_}
 use mathlib.Core.Bool.{true}
-use mathlib.Core.List.{List, [], _∷_, _++_}
+use mathlib.Core.List.{List, [], _++_}
 use native.Mathlib.Omega.{arith}
 use borrow.Author.Tests.{ltb-false, lt-ltb, le-ltb, leb-true, eqb-true, not-false}
-use lib.ListN.{length, getD, replicate, length-append, List·getD-append}
+use lib.ListN.{length, getD, length-append, List·getD-append}
 use lib.Ieee.{Float}
 use Rattle.refusal.specs.Table.{first, andThen}
 use Rattle.refusal.specs.Telling.{accepts, tells}
@@ -16,20 +16,18 @@ use Rattle.refusal.specs.declared.Outcome.the-variants.{Done, Refused}
 use Rattle.refusal.proofs.Tables.{none, table-hit, table-pass, table-end, both-done}
 use Rattle.lent.specs.Grid.{noughts, over}
 use Rattle.lent.specs.Lent.{laid}
-use Rattle.lent.proofs.Laws.{length-tab, getD-tab}
+use Rattle.lent.proofs.Laws.{length-tab}
 use Rattle.lent.proofs.Sizes.{laid-done, laid-refused}
 use Rattle.fields.specs.Split.{all}
 use Rattle.fields.proofs.Every.{all-at}
+use Rattle.writing.specs.Writing.{decimal, Wrote}
+use Rattle.writing.proofs.Writing.{at-front}
 use Rattle.millionths.specs.Millionths.{millionthsAt, millionthsIn, millionthsLines, millionthsTable, millionthsOutcome, millionthsLaid}
-use Rattle.millionths.proofs.Lists.{accepted, at-most}
 use Rattle.tree.specs.Rows.{isOrder}
 use Rattle.tree.proofs.Rows.{is-order}
-use Rattle.listing.specs.Listing.{places, decimal, refusalLine, listedAs, ListingMade, nameIn, isShort, sheetLines, sheetOutcome, refusalOutcome}
-use Rattle.listing.specs.Inner.{Wrote, Named, Parted, Listable}
-use Rattle.listing.specs.declared.Listed.{Listed}
+use Rattle.listing.specs.Listing.{refusalLine, listedAs, ListingMade, nameIn, isShort, sheetLines, sheetOutcome, refusalOutcome}
+use Rattle.listing.specs.Inner.{Named, Parted, Listable}
 use Rattle.listing.specs.declared.Listed.the-variants as listed
-use Rattle.listing.proofs.Writing.{at-front}
-use Rattle.listing.proofs.Digits.{length-digits}
 
 -- ---- what a call that writes s leaves
 
@@ -55,9 +53,15 @@ made-refused o s room out k e z = record {
 
 -- ---- 13 and 18, by themselves
 
-parts-said : (ws : List Float) → length ws ≤ 64 → millionthsOutcome ws 64 ≡ first (millionthsLines ws)
+pub parts-said : (ws : List Float) → length ws ≤ 64 → millionthsOutcome ws 64 ≡ first (millionthsLines ws)
 unfolding millionthsOutcome millionthsTable
 parts-said ws h = table-pass _ OverLimit _ (le-ltb 64 (length ws) h) ∙ table-pass _ ShortBuffer _ (le-ltb 64 (length ws) h)
+
+-- ---- names of at most 16 bytes
+
+pub names-short : (text starts : List ℕ) → length starts ≤ 64 → all (isShort text) starts ≡ true → Named text starts
+unfolding isShort nameIn
+names-short text starts few short = record { few = few; short = λ i h. leb-true _ 16 (all-at (isShort text) starts 0 short i h) }
 
 -- ---- the listing: what its lines find right
 
@@ -98,8 +102,7 @@ module _ (text starts : List ℕ) (ws : List Float) (order : List ℕ) (room : �
     found = right text starts (length ws) order room (sym j ∙ both .0)
 
     named : Named text starts
-    unfolding isShort nameIn
-    named = record { few = found .few; short = λ i h. leb-true _ 16 (all-at (isShort text) starts 0 (found .short) i h) }
+    named = names-short text starts (found .few) (found .short)
 
     parted : (parts : List ℕ) → length parts ≡ 64 → parts ≡ millionthsLaid ws 64 → Parted ws parts
     unfolding millionthsLaid millionthsIn laid
@@ -109,9 +112,6 @@ module _ (text starts : List ℕ) (ws : List Float) (order : List ℕ) (room : �
         record {
           wide = omega (arith, found .few, found .weighed);
           are = λ i h. ap (λ (x : List ℕ). getD x i 0) e ∙ List·getD-append (millionthsIn ws) _ 0 i (omega (arith, n));
-          small = λ i h.
-              let q = ap (λ (x : List ℕ). getD x i 0) e ∙ List·getD-append (millionthsIn ws) _ 0 i (omega (arith, n)) ∙ getD-tab (length ws) (millionthsAt ws) i 0 h in
-              omega (arith, q, at-most ws (accepted ws 64 (sym m ∙ both .1) .ranged) i h);
         }
 
     pub listable : (parts : List ℕ) → length parts ≡ 64 → parts ≡ millionthsLaid ws 64 → (room′ : ℕ) → room′ ≡ room → Listable text starts ws parts order room′
@@ -128,14 +128,14 @@ module _ (text starts : List ℕ) (ws : List Float) (order : List ℕ) (room : �
 
 -- ---- the line of a refusal
 
-line-length : (k : ℕ) → length (refusalLine k) ≡ places 6 k + 9
-unfolding refusalLine decimal
-line-length k = simp length-append (omega (arith, length-digits 10 (places 6 k) k))
+pub line-length : (k : ℕ) → length (refusalLine k) ≡ length (decimal k) + 9
+unfolding refusalLine
+line-length k = simp length-append (omega arith)
 
-pub line-fits : (k room p : ℕ) → p ≡ places 6 k → p + 9 ≤ room → refusalOutcome k room ≡ Done
+pub line-fits : (k room p : ℕ) → p ≡ length (decimal k) → p + 9 ≤ room → refusalOutcome k room ≡ Done
 unfolding refusalOutcome
 line-fits k room p e h = table-pass _ ShortBuffer [] (le-ltb room (length (refusalLine k)) (omega (arith, line-length k))) ∙ table-end
 
-pub line-short : (k room p : ℕ) → p ≡ places 6 k → room < p + 9 → refusalOutcome k room ≡ Refused ShortBuffer
+pub line-short : (k room p : ℕ) → p ≡ length (decimal k) → room < p + 9 → refusalOutcome k room ≡ Refused ShortBuffer
 unfolding refusalOutcome
 line-short k room p e h = table-hit _ ShortBuffer [] (lt-ltb room (length (refusalLine k)) (omega (arith, line-length k)))

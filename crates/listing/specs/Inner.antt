@@ -1,23 +1,11 @@
 -- What the private functions ask of one another and promise: may be skipped. Definitions only.
-use Prim.Native.Nat.{ℕ, _≤_, _<_, _+_}
+use Prim.Native.Nat.{ℕ, _≤_, _<_}
 use mathlib.Core.Path.{_≡_}
 use mathlib.Core.List.{List}
 use lib.ListN.{length, getD}
-use lib.Seq.{paste}
 use lib.Ieee.{Float}
 use Rattle.millionths.specs.Millionths.{millionthsIn}
 use Rattle.listing.specs.Listing.{nameIn}
-
--- d, with s written from place `at` on
-unfoldable pub written : List ℕ → ℕ → List ℕ → List ℕ
-written d at s = paste d at s (length s)
-
--- s was written into d from place `at` on, up to place at′: what each writing function promises
-pub record Wrote (d : List ℕ) (at : ℕ) (s d′ : List ℕ) (at′ : ℕ) : Type 0 where
-  pub moved : at′ ≡ at + length s
-  pub room : at′ ≤ length d
-  pub same : length d′ ≡ length d
-  pub bytes : d′ ≡ written d at s
 
 -- "0 to 64 assets", each with "a name of 1 to 16 bytes"
 pub record Named (text starts : List ℕ) : Type 0 where
@@ -28,7 +16,6 @@ pub record Named (text starts : List ℕ) : Type 0 where
 pub record Parted (ws : List Float) (parts : List ℕ) : Type 0 where
   pub wide : length ws ≤ length parts
   pub are : (i : ℕ) → i < length ws → getD parts i 0 ≡ getD (millionthsIn ws) i 0
-  pub small : (i : ℕ) → i < length ws → getD parts i 0 < 10000000
 
 -- what a listing is made of
 pub record Listable (text starts : List ℕ) (ws : List Float) (parts order : List ℕ) (room : ℕ) : Type 0 where

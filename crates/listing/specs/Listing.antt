@@ -1,7 +1,7 @@
 -- Document 01, "Millionths and the job program": the listing of an answer, and the line of a refusal. Definitions only.
-use Prim.Native.Nat.{ℕ, zero, suc, _≤_, _+_, _/_, _%_}
+use Prim.Native.Nat.{ℕ, _≤_}
 use mathlib.Core.Path.{_≡_}
-use mathlib.Core.Bool.{Bool, not, cond}
+use mathlib.Core.Bool.{Bool, not}
 use mathlib.Core.List.{List, [], _∷_, _++_}
 use lib.Dec.{leb, ltb, eqb}
 use lib.ListN.{length, getD}
@@ -14,42 +14,13 @@ use Rattle.refusal.specs.declared.Outcome.the-variants as outcome
 use Rattle.lent.specs.Lent.{most-assets, laid}
 use Rattle.text.specs.Bytes.{bytes}
 use Rattle.fields.specs.Split.{newline, tabulator, all}
+use Rattle.writing.specs.Writing.{decimal, hexOf, joined}
 use Rattle.millionths.specs.Millionths.{millionthsIn, millionthsLines}
 use Rattle.tree.specs.Rows.{isOrder}
 use Rattle.names.specs.Names.{nameFrom}
 use Rattle.reading.specs.Reading.{most-bytes}
 use Rattle.listing.specs.declared.Listed.{Listed}
 use Rattle.listing.specs.declared.Listed.the-variants as listed
-
--- a digit of base 10 or 16 as a byte: 0 to 9, then a to f
-unfoldable pub digitByte : ℕ → ℕ
-digitByte d = cond (ltb d 10) (d + 48) (d + 87)
-
--- the k last digits of a number
-unfoldable pub digits : ℕ → ℕ → ℕ → List ℕ
-unfolding digitByte
-digits base zero n = []
-digits base (suc k) n = digits base k (n / base) ++ (digitByte (n % base) ∷ [])
-
--- how many decimal digits a number takes, if they are at most k + 1
-unfoldable pub places : ℕ → ℕ → ℕ
-places zero n = 1
-places (suc k) n = cond (ltb n 10) 1 (suc (places k (n / 10)))
-
--- a number of at most 7 decimal digits, as text
-unfoldable pub decimal : ℕ → List ℕ
-unfolding places digits
-decimal n = digits 10 (places 6 n) n
-
--- the 16 hex digits of a pattern of 64 bits
-unfoldable pub hexOf : ℕ → List ℕ
-unfolding digits
-hexOf n = digits 16 16 n
-
--- f 0, f 1, .., f (n - 1), one after the other
-unfoldable pub joined : ℕ → (ℕ → List ℕ) → List ℕ
-joined zero f = []
-joined (suc n) f = joined n f ++ f n
 
 -- "prints name, weight bits, millionths": "An answer that is NaN has the bits 7ff8000000000000"
 unfoldable pub assetLine : List ℕ → Float → ℕ → List ℕ

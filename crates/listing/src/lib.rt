@@ -3,14 +3,14 @@
 use refusal::Outcome;
 use refusal::Refusal;
 ghost use mathlib.Core.Path.{_≡_};
-ghost use mathlib.Core.List.{[], _∷_};
 ghost use Prim.Native.Nat.{ℕ, _+_, _*_, _≤_, _<_};
 ghost use lib.ListN.{length, getD};
 ghost use Rattle.refusal.specs.Table.{first};
 ghost use Rattle.fields.specs.Split.{all};
-ghost use Rattle.listing.specs.Listing.{digitByte, digits, places, hexOf, decimal, joined, assetLine, lineOf, ordered, listing, refusalLine};
+ghost use Rattle.writing.specs.Writing.{joined, Wrote};
+ghost use Rattle.listing.specs.Listing.{assetLine, lineOf, ordered, listing, refusalLine};
 ghost use Rattle.listing.specs.Listing.{bytesIn, ListingMade, nameIn, isShort, sheetLines, sheetOutcome, refusalOutcome};
-ghost use Rattle.listing.specs.Inner.{Wrote, Named, Parted, Listable};
+ghost use Rattle.listing.specs.Inner.{Named, Parted, Listable};
 
 // 8,192 bytes hold every listing.
 pub const LEAST_LISTING: usize = 8192;
@@ -31,97 +31,18 @@ pub fn bytes(listed: Listed) -> usize
     }
 }
 
-// s is written from place `at` on; the answer is the place after it.
-fn append(out: &mut [u8], at: usize, s: &[u8]) -> usize
-    requires { ⌜ at + length (now s) ≤ length (now out) ⌝ }
-    ensures { λ r. ⌜ Wrote (now (out .entry)) at (now (s .entry)) (now (out .exit)) r ⌝ }
-{
-    let mut i = 0;
-    while i < s.len() {
-        out[at + i] = s[i];
-        i += 1;
-    }
-    at + s.len()
-}
-
-fn put_byte(out: &mut [u8], at: usize, b: u8) -> usize
-    requires { ⌜ at < length (now out) ⌝ }
-    ensures { λ r. ⌜ Wrote (now (out .entry)) at (b ∷ []) (now (out .exit)) r ⌝ }
-{
-    out[at] = b;
-    at + 1
-}
-
-// A digit as a byte: 0 to 9, then a to f.
-fn digit_byte(d: u64) -> u8
-    requires { ⌜ d < 16 ⌝ }
-    ensures { λ r. ⌜ r ≡ digitByte d ⌝ }
-{
-    if d < 10 {
-        return d as u8 + 48;
-    }
-    d as u8 + 87
-}
-
-// The k last digits of n, from the last one to the first.
-fn put_digits(out: &mut [u8], at: usize, base: u64, k: usize, n: u64) -> usize
-    requires { ⌜ 0 < base ⌝ }
-    requires { ⌜ base ≤ 16 ⌝ }
-    requires { ⌜ at + k ≤ length (now out) ⌝ }
-    ensures { λ r. ⌜ Wrote (now (out .entry)) at (digits base k n) (now (out .exit)) r ⌝ }
-{
-    let mut left = n;
-    let mut i = k;
-    while i > 0 {
-        i -= 1;
-        out[at + i] = digit_byte(left % base);
-        left /= base;
-    }
-    at + k
-}
-
-fn put_hex(out: &mut [u8], at: usize, n: u64) -> usize
-    requires { ⌜ at + 16 ≤ length (now out) ⌝ }
-    ensures { λ r. ⌜ Wrote (now (out .entry)) at (hexOf n) (now (out .exit)) r ⌝ }
-{
-    put_digits(out, at, 16, 16, n)
-}
-
-// How many decimal digits n takes.
-fn places(n: u64) -> usize
-    requires { ⌜ n < 10000000 ⌝ }
-    ensures { λ r. ⌜ r ≡ places 6 n ⌝ }
-{
-    let mut k = 1;
-    let mut left = n;
-    while left >= 10 {
-        left /= 10;
-        k += 1;
-    }
-    k
-}
-
-fn put_decimal(out: &mut [u8], at: usize, n: u64) -> usize
-    requires { ⌜ n < 10000000 ⌝ }
-    requires { ⌜ at + 7 ≤ length (now out) ⌝ }
-    ensures { λ r. ⌜ Wrote (now (out .entry)) at (decimal n) (now (out .exit)) r ⌝ }
-{
-    put_digits(out, at, 10, places(n), n)
-}
-
 // An asset's line: name, weight bits, millionths.
 fn put_asset(out: &mut [u8], at: usize, name: &[u8], w: f64, m: u64) -> usize
     requires { ⌜ length (now name) ≤ 16 ⌝ }
-    requires { ⌜ m < 10000000 ⌝ }
-    requires { ⌜ at + 42 ≤ length (now out) ⌝ }
+    requires { ⌜ at + 55 ≤ length (now out) ⌝ }
     ensures { λ r. ⌜ Wrote (now (out .entry)) at (assetLine (now (name .entry)) w m) (now (out .exit)) r ⌝ }
 {
-    let named = append(out, at, name);
-    let tabbed = put_byte(out, named, b'\t');
-    let weighed = put_hex(out, tabbed, arithmetic::to_bits(w));
-    let parted = put_byte(out, weighed, b'\t');
-    let counted = put_decimal(out, parted, m);
-    put_byte(out, counted, b'\n')
+    let named = writing::put_bytes(out, at, name);
+    let tabbed = writing::put_byte(out, named, b'\t');
+    let weighed = writing::put_hex(out, tabbed, arithmetic::to_bits(w));
+    let parted = writing::put_byte(out, weighed, b'\t');
+    let counted = writing::put_decimal(out, parted, m);
+    writing::put_byte(out, counted, b'\n')
 }
 
 // A line for each weight, from the start of the buffer on.
@@ -171,8 +92,8 @@ fn put_order(text: &[u8], starts: &[usize], order: &[usize], out: &mut [u8], fro
     let mut at = from;
     let mut k = 0;
     while k < order.len() {
-        let tabbed = put_byte(out, at, b'\t');
-        at = append(out, tabbed, names::name(text, starts[asset_at(order, k)]));
+        let tabbed = writing::put_byte(out, at, b'\t');
+        at = writing::put_bytes(out, tabbed, names::name(text, starts[asset_at(order, k)]));
         k += 1;
     }
     at
@@ -191,13 +112,13 @@ fn put_listing(
     ensures { λ r. ⌜ Wrote (now (out .entry)) 0 (listing (nameIn (now (text .entry)) (now (starts .entry))) (now (weights .entry)) (now (order .entry))) (now (out .exit)) r ⌝ }
 {
     let listed = put_assets(text, starts, weights, parts, out);
-    let headed = append(out, listed, b"order");
+    let headed = writing::put_bytes(out, listed, b"order");
     let named = put_order(text, starts, order, out, headed);
-    put_byte(out, named, b'\n')
+    writing::put_byte(out, named, b'\n')
 }
 
 // Whether every name has at most 16 bytes.
-fn all_short(text: &[u8], starts: &[usize]) -> bool
+pub fn all_short(text: &[u8], starts: &[usize]) -> bool
     ensures { λ r. ⌜ r ≡ all (isShort (now (text .entry))) (now (starts .entry)) ⌝ }
 {
     let mut i = 0;
@@ -251,15 +172,14 @@ pub fn sheet(
     }
 }
 
-// The line of a number of k digits, from the start of the buffer on; the answer is its length.
-fn put_refusal(number: u64, k: usize, out: &mut [u8]) -> usize
-    requires { ⌜ k ≡ places 6 number ⌝ }
-    requires { ⌜ k + 9 ≤ length (now out) ⌝ }
+// The line of a number, from the start of the buffer on; the answer is its length.
+fn put_refusal(number: u64, out: &mut [u8]) -> usize
+    requires { ⌜ length (refusalLine number) ≤ length (now out) ⌝ }
     ensures { λ r. ⌜ Wrote (now (out .entry)) 0 (refusalLine number) (now (out .exit)) r ⌝ }
 {
-    let headed = append(out, 0, b"refused\t");
-    let counted = put_digits(out, headed, 10, k, number);
-    put_byte(out, counted, b'\n')
+    let headed = writing::put_bytes(out, 0, b"refused\t");
+    let counted = writing::put_decimal(out, headed, number);
+    writing::put_byte(out, counted, b'\n')
 }
 
 // The line of a refusal's number, at the front of a buffer: `refused`, tab, number, newline.
@@ -267,10 +187,10 @@ pub fn refusal_line(number: u8, line: &mut [u8]) -> Listed
     ensures { λ r. ⌜ ListingMade
         (refusalOutcome number (length (now (line .entry)))) (refusalLine number) (length (now (line .entry))) r (now (line .exit)) ⌝ }
 {
-    let k = places(number as u64);
+    let k = writing::places(number as u64);
     lent::clear_bytes_from(line, 0);
     if line.len() < k + 9 {
         return Listed::Refused(Refusal::ShortBuffer);
     }
-    Listed::Sheet(put_refusal(number as u64, k, line))
+    Listed::Sheet(put_refusal(number as u64, line))
 }

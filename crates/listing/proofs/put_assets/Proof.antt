@@ -5,9 +5,10 @@ use mathlib.Core.List.{List}
 use native.Mathlib.Omega.{arith}
 use lib.Ieee.{nan}
 use lib.ListN.{length, getD}
-use Rattle.listing.specs.Listing.{joined, assetLine, lineOf, nameIn}
-use Rattle.listing.specs.Inner.{Wrote}
-use Rattle.listing.proofs.Lines.{none-yet, one-more, all-parts, line-room}
+use Rattle.listing.specs.Listing.{assetLine, lineOf, nameIn}
+use Rattle.writing.specs.Writing.{joined, Wrote}
+use Rattle.writing.proofs.Writing.{none-yet, one-more, all-parts}
+use Rattle.listing.proofs.Lines.{line-room}
 use Rattle.listing.proofs.put_assets.Statement.{statement}
 use Rattle.listing.proofs.put_assets.Tie as tie
 
@@ -48,7 +49,7 @@ put-asset-requires c κs =
     let s = c .before .before .before .before .before .before .before .before .before .before .before .before in
     let h = c .before .before .before .before .before .loop-test .taken in
     let n = s .pre .0 .short (at .loop .i) (omega (arith, s .pre .1 .0)) in
-    (omega (arith, n, ap length (c .before .before .name .ensures)), (s .pre .1 .1 .0 .small (at .loop .i) h, line-room (s .pre .0) _ (at .loop .i) (s .pre .1 .0) (at .loop .inv .1) h (s .pre .1 .1 .1)))
+    (omega (arith, n, ap length (c .before .before .name .ensures)), line-room (s .pre .0) _ (at .loop .i) (s .pre .1 .0) (at .loop .inv .1) h (s .pre .1 .1 .1))
 
 add-i : tie.Need-add-i Inv-loop μ-loop
 add-i c = omega arith

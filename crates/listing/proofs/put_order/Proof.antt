@@ -4,10 +4,10 @@ use mathlib.Core.Path.{ap, _∙_}
 use mathlib.Core.List.{List, [], _∷_, _++_}
 use native.Mathlib.Omega.{arith}
 use lib.ListN.{length, getD}
-use Rattle.listing.specs.Listing.{joined, ordered, nameIn}
-use Rattle.listing.specs.Inner.{Wrote}
-use Rattle.listing.proofs.Writing.{then}
-use Rattle.listing.proofs.Lines.{none-yet, one-more, all-parts, name-room}
+use Rattle.writing.specs.Writing.{joined, Wrote}
+use Rattle.writing.proofs.Writing.{none-yet, one-more, all-parts}
+use Rattle.listing.specs.Listing.{ordered, nameIn}
+use Rattle.listing.proofs.Lines.{name-room, name-put}
 use Rattle.listing.proofs.put_order.Statement.{statement}
 use Rattle.listing.proofs.put_order.Tie as tie
 
@@ -21,10 +21,7 @@ loop-holds : tie.Need-loop-holds Inv-loop μ-loop
 loop-holds c = (omega arith, none-yet _ _ _ (omega arith))
 
 put-byte-requires : tie.Need-put-byte-requires Inv-loop μ-loop
-put-byte-requires c κs =
-    let at = c .before .before in
-    let s = at .before .before .before .before .before in
-    omega (arith, name-room (s .pre .0) _ (s .pre .1 .0) (at .loop .k) (at .loop .inv .1) (omega arith) (s .pre .1 .1))
+put-byte-requires c κs = tt
 
 asset-at-requires : tie.Need-asset-at-requires Inv-loop μ-loop
 asset-at-requires c κs = c .before .before .before .before .before .loop-test .taken
@@ -42,16 +39,8 @@ shared-slice-read-name c =
 name-requires : tie.Need-name-requires Inv-loop μ-loop
 name-requires c κs = tt
 
-append-requires : tie.Need-append-requires Inv-loop μ-loop
-unfolding nameIn
-append-requires c κs =
-    let at = c .before .before .before .before .before .before .before .before .before in
-    let s = at .before .before .before .before .before in
-    let h = c .before .before .before .before .before .before .before .before .loop-test .taken in
-    let b = c .before .before .before .before .before .before .put-byte .ensures in
-    let n = s .pre .0 .short (getD (s .args .order .now) (at .loop .k) 0) (s .pre .1 .0 (at .loop .k) h) in
-    let e = c .name .ensures ∙ ap (nameIn (s .args .text .now) (s .args .starts .now)) (c .before .before .asset-at .ensures) in
-    omega (arith, n, ap length e, b .moved, b .same, name-room (s .pre .0) _ (s .pre .1 .0) (at .loop .k) (at .loop .inv .1) h (s .pre .1 .1))
+put-bytes-requires : tie.Need-put-bytes-requires Inv-loop μ-loop
+put-bytes-requires c κs = tt
 
 add-k : tie.Need-add-k Inv-loop μ-loop
 add-k c = omega arith
@@ -64,9 +53,15 @@ unfolding ordered nameIn
 loop-again c =
     let put = c .before .before in
     let at = c .before .before .before .before .before .before .before .before .before .before .before .before in
-    let a = at .before .before .before .before .before .args in
-    let e = put .before .name .ensures ∙ ap (nameIn (a .text .now) (a .starts .now)) (c .before .before .before .before .before .asset-at .ensures) in
-    (omega (arith, c .before .before .before .before .before .before .before .before .before .before .before .loop-test .taken), one-more (ordered (nameIn (a .text .now) (a .starts .now)) (a .order .now)) (at .loop .k) (at .loop .inv .1) (then (c .before .before .before .before .before .before .before .before .before .put-byte .ensures) (put .append .ensures)) (ap (λ (l : List ℕ). (9 ∷ []) ++ l) e))
+    let s = at .before .before .before .before .before in
+    let a = s .args in
+    let names = nameIn (a .text .now) (a .starts .now) in
+    let h = c .before .before .before .before .before .before .before .before .before .before .before .loop-test .taken in
+    let e = put .before .name .ensures ∙ ap names (c .before .before .before .before .before .asset-at .ensures) in
+    let short = s .pre .0 .short (getD (a .order .now) (at .loop .k) 0) (s .pre .1 .0 (at .loop .k) h) in
+    let room = name-room (s .pre .0) (a .order .now) (s .pre .1 .0) (at .loop .k) (at .loop .inv .1) h (s .pre .1 .1) in
+    let wrote = name-put _ (c .before .before .before .before .before .before .before .before .before .put-byte .ensures) (put .put-bytes .ensures) (omega (arith, short, ap length e)) room in
+    (omega (arith, h), one-more (ordered names (a .order .now)) (at .loop .k) (at .loop .inv .1) wrote (ap (λ (l : List ℕ). (9 ∷ []) ++ l) e))
 
 same-length : tie.Need-same-length Inv-loop μ-loop
 same-length c = c .before .loop .inv .1 .same
@@ -86,7 +81,7 @@ put-order-spec =
     mul-name
     shared-slice-read-name
     name-requires
-    append-requires
+    put-bytes-requires
     add-k
     loop-less
     loop-again

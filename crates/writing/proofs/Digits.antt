@@ -6,12 +6,11 @@ use mathlib.Core.List.{List, [], _∷_, _++_, append-assoc, append-nil}
 use native.Mathlib.Omega.{arith}
 use native.Mathlib.Nat.{pow-suc}
 use native.Mathlib.Numerals.{add-one}
-use borrow.Author.Tests.{lt-ltb, le-ltb}
+use borrow.Author.Tests.{lt-ltb, le-ltb, ltb-true, ltb-false}
 use lib.Dec.{ltb}
 use lib.ListN.{length, set, length-append}
-use Rattle.listing.specs.Listing.{digitByte, digits, places, decimal, hexOf}
-use Rattle.listing.specs.Inner.{Wrote}
-use Rattle.listing.proofs.Writing.{nothing, renamed, before}
+use Rattle.writing.specs.Writing.{digitByte, digits, places, decimal, hexOf, Put, Wrote}
+use Rattle.writing.proofs.Writing.{nothing, renamed, before, put-none}
 
 -- ---- one digit
 
@@ -30,11 +29,20 @@ unfolding digits
 length-digits base zero n = refl
 length-digits base (suc k) n = length-append (digits base k (n / base)) (digitByte (n % base) ∷ []) ∙ rw (length-digits base k (n / base), add-one)
 
-pub length-hex : (n : ℕ) → length (hexOf n) ≡ 16
+pub hex-length : (n : ℕ) → length (hexOf n) ≡ 16
 unfolding hexOf
-length-hex n = length-digits 16 16 n
+hex-length n = length-digits 16 16 n
 
-pub places-le : (r n : ℕ) → places r n ≤ suc r
+pub one-place-more : (m l : ℕ) → 10 ≤ l → places (suc m) l ≡ suc (places m (l / 10))
+unfolding places
+one-place-more m l h = rw (le-ltb l 10 h)
+
+pub last-place : (m l : ℕ) → l < 10 → places m l ≡ 1
+unfolding places
+last-place zero l h = refl
+last-place (suc m) l h = rw (lt-ltb l 10 h)
+
+places-le : (r n : ℕ) → places r n ≤ suc r
 unfolding places
 places-le zero n = omega arith
 places-le (suc r) n = go (ltb n 10) (places-le r (n / 10))
@@ -43,9 +51,33 @@ places-le (suc r) n = go (ltb n 10) (places-le r (n / 10))
     go true ih = omega arith
     go false ih = omega arith
 
-pub length-decimal : (n : ℕ) → length (decimal n) ≤ 7
+-- a number below 10^(r + 1) takes at most r + 1
+places-short : (m r n : ℕ) → n < 10 ^ suc r → places (r + m) n ≤ suc r
+places-short m zero n h = omega (arith, last-place (0 + m) n h)
+places-short m (suc r) n h = go (ltb n 10) refl (places-short m r (n / 10) (omega (arith, pow-suc 10 (suc r))))
+  where
+    go : (b : Bool) → ltb n 10 ≡ b → places (r + m) (n / 10) ≤ suc r → places (suc r + m) n ≤ suc (suc r)
+    go true e ih = omega (arith, last-place (suc r + m) n (ltb-true n 10 e))
+    go false e ih = let f : suc r + m ≡ suc (r + m) = omega arith in rw f (omega (arith, one-place-more (r + m) n (ltb-false n 10 e)))
+
+pub decimal-places : (n : ℕ) → length (decimal n) ≡ places 19 n
 unfolding decimal
-length-decimal n = omega (arith, length-digits 10 (places 6 n) n, places-le 6 n)
+decimal-places n = length-digits 10 (places 19 n) n
+
+pub decimal-long : (n : ℕ) → length (decimal n) ≤ 20
+decimal-long n = omega (arith, decimal-places n, places-le 19 n)
+
+pub decimal-at-most : (r n : ℕ) → r ≤ 19 → n < 10 ^ suc r → length (decimal n) ≤ suc r
+decimal-at-most r n l h =
+    let e : r + (19 - r) ≡ 19 = omega arith in
+    omega (arith, decimal-places n, subst (λ (m : ℕ). places m n ≤ suc r) e (places-short (19 - r) r n h))
+
+pub decimal-short : (n : ℕ) → n < 10000000 → length (decimal n) ≤ 7
+decimal-short n h = decimal-at-most 6 n (omega arith) h
+
+-- no room for k of them
+pub digits-none : (base k n at : ℕ) (d : List ℕ) → length d < at + k → Put d at (digits base k n) d at
+digits-none base k n at d h = put-none (omega (arith, length-digits base k n)) refl refl
 
 -- ---- written from the last to the first: of the k digits of n, all but the first i are in `out`, and those are the digits of `left`
 
@@ -79,41 +111,32 @@ putting-end {base} {k} {n} {at} {out₀} {left} {i} {out} p h =
     let e : at + i ≡ at = omega arith in
     renamed (digits base k n) (subst (λ (m : ℕ). Wrote out₀ m (p .rest) out (at + k)) e (p .done)) (sym (p .is ∙ ap (λ (m : ℕ). digits base m left ++ p .rest) h))
 
--- ---- counted: k − 1 digits of n are off, `left` is what they leave, and at most 7 − k more may come
+-- ---- counted: k − 1 digits of n are off, `left` is what they leave, and at most 20 − k more may come
 
 pub record Counting (n k left : ℕ) : Type 0 where
   pub more : ℕ
-  pub few : k + more ≡ 7
+  pub few : k + more ≡ 20
   pub small : left < 10 ^ suc more
-  pub is : places 6 n + 1 ≡ k + places more left
+  pub is : places 19 n + 1 ≡ k + places more left
 
-pub counting-start : (n : ℕ) → n < 10000000 → Counting n 1 n
-counting-start n h = record { more = 6; few = refl; small = h; is = omega arith }
-
-one-more : (m l : ℕ) → 10 ≤ l → places (suc m) l ≡ suc (places m (l / 10))
-unfolding places
-one-more m l h = rw (le-ltb l 10 h)
-
-last-one : (m l : ℕ) → l < 10 → places m l ≡ 1
-unfolding places
-last-one zero l h = refl
-last-one (suc m) l h = rw (lt-ltb l 10 h)
+pub counting-start : (n : ℕ) → n < 18446744073709551616 → Counting n 1 n
+counting-start n h = record { more = 19; few = refl; small = omega arith; is = omega arith }
 
 pub counting-step : {n k left : ℕ} → Counting n k left → 10 ≤ left → Counting n (k + 1) (left / 10)
 counting-step {n} {k} {left} p h = go (p .more) (p .few) (p .small) (p .is)
   where
-    go : (m : ℕ) → k + m ≡ 7 → left < 10 ^ suc m → places 6 n + 1 ≡ k + places m left → Counting n (k + 1) (left / 10)
+    go : (m : ℕ) → k + m ≡ 20 → left < 10 ^ suc m → places 19 n + 1 ≡ k + places m left → Counting n (k + 1) (left / 10)
     go zero f s e = absurd (omega arith)
     go (suc m) f s e = record {
       more = m;
       few = omega arith;
       small = omega (arith, pow-suc 10 (suc m));
-      is = omega (arith, one-more m left h);
+      is = omega (arith, one-place-more m left h);
     }
 
-pub counting-end : {n k left : ℕ} → Counting n k left → left < 10 → k ≡ places 6 n
-counting-end {n} {k} {left} p h = omega (arith, p .is, last-one (p .more) left h)
+pub counting-end : {n k left : ℕ} → Counting n k left → left < 10 → k ≡ length (decimal n)
+counting-end {n} {k} {left} p h = omega (arith, decimal-places n, p .is, last-place (p .more) left h)
 
--- so no count passes 7
-pub counting-le : {n k left : ℕ} → Counting n k left → k ≤ 7
+-- so no count passes 20
+pub counting-le : {n k left : ℕ} → Counting n k left → k ≤ 20
 counting-le p = omega (arith, p .few)

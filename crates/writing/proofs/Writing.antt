@@ -1,14 +1,17 @@
 -- Bytes written one part after another. Assumes nothing.
-use Prim.Native.Nat.{ℕ, suc, _+_, _≤_, _<_}
+use Prim.Native.Nat.{ℕ, zero, suc, _+_, _-_, _*_, _≤_, _<_}
 use mathlib.Core.Path.{_≡_, refl, sym, ap, _∙_, subst}
+use mathlib.Core.Bool.{Bool, true, false}
 use mathlib.Core.List.{List, [], _∷_, _++_, append-assoc}
 use native.Mathlib.Omega.{arith}
-use native.Mathlib.Nat.{add-zero, zero-add, add-assoc}
+use native.Mathlib.Nat.{add-zero, zero-add, add-assoc, mul-suc}
 use native.Mathlib.Numerals.{add-one}
+use borrow.Author.Tests.{ltb-true, ltb-false, lt-ltb, le-ltb, le-leb, lt-leb}
+use lib.Dec.{ltb}
 use lib.ListN.{length, getD, set, take, drop, length-append, length-set}
 use lib.Seq.{paste, paste-zero, paste-suc, length-paste, take-paste, drop-paste, take-length, take-append-le, take-take, drop-drop, drop-at, length-take-le, set-split, append-snoc}
 use Rattle.lent.specs.Grid.{over}
-use Rattle.listing.specs.Inner.{written, Wrote}
+use Rattle.writing.specs.Writing.{joined, written, put, past, Put, Wrote, Fitting}
 
 -- ---- a copy, byte by byte
 
@@ -85,6 +88,90 @@ before {d} {at} {s} {d′} {at′} b w = record {
   same = length-set d′ at b ∙ w .same;
   bytes = ap (λ (l : List ℕ). set l at b) (w .bytes) ∙ set-before d s at b (omega (arith, w .moved, w .room));
 }
+
+-- ---- what a call promises that writes where there is room
+
+pub room-none : (room at k : ℕ) → room < at → true ≡ ltb room (at + k)
+room-none room at k h = sym (lt-ltb room (at + k) (omega arith))
+
+pub room-left : (room at k : ℕ) → at ≤ room → ltb (room - at) k ≡ ltb room (at + k)
+room-left room at k h = go (ltb (room - at) k) refl
+  where
+    go : (b : Bool) → ltb (room - at) k ≡ b → b ≡ ltb room (at + k)
+    go true e = sym (lt-ltb room (at + k) (omega (arith, ltb-true (room - at) k e)))
+    go false e = sym (le-ltb room (at + k) (omega (arith, ltb-false (room - at) k e)))
+
+module _ {d : List ℕ} {at : ℕ} {s d′ : List ℕ} {at′ : ℕ} where
+  pub put-wrote : Wrote d at s d′ at′ → Put d at s d′ at′
+  unfolding put past
+  put-wrote w =
+      let e = le-leb (at + length s) (length d) (omega (arith, w .moved, w .room)) in
+      record { bytes = rw e (w .bytes); moved = rw e (w .moved) }
+
+  pub put-none : length d < at + length s → d′ ≡ d → at′ ≡ at → Put d at s d′ at′
+  unfolding put past
+  put-none h f g = let e = lt-leb (at + length s) (length d) h in record { bytes = rw e f; moved = rw e g }
+
+  -- it does not fit: nothing is written
+  pub put-short : Put d at s d′ at′ → length d < at + length s → (d′ ≡ d) × (at′ ≡ at)
+  unfolding put past
+  put-short p h = let e = lt-leb (at + length s) (length d) h in (p .bytes ∙ rw e, p .moved ∙ rw e)
+
+  -- it fits
+  pub put-fits : Put d at s d′ at′ → at + length s ≤ length d → Wrote d at s d′ at′
+  unfolding put past written
+  put-fits p h =
+      let e = le-leb (at + length s) (length d) h in
+      let b : d′ ≡ written d at s = p .bytes ∙ rw e in
+      let m : at′ ≡ at + length s = p .moved ∙ rw e in
+      record { moved = m; room = omega (arith, m); same = ap length b ∙ length-paste d at s (length s) h (omega arith); bytes = b }
+
+-- the same bytes by another name
+pub renamed-put : {d : List ℕ} {at : ℕ} {s : List ℕ} (t : List ℕ) {d′ : List ℕ} {at′ : ℕ} → Put d at s d′ at′ → s ≡ t → Put d at t d′ at′
+renamed-put {d} {at} {s} t {d′} {at′} p e = subst (λ (l : List ℕ). Put d at l d′ at′) e p
+
+-- ---- writes one after the other: the room is asked once, of all together
+
+module _ {d : List ℕ} {at : ℕ} {s d′ : List ℕ} {at′ : ℕ} where
+  pub fit : Put d at s d′ at′ → Fitting d at s d′ at′
+  fit p = record { wrote = put-fits p }
+
+  pub fit-both : {t d″ : List ℕ} {at″ : ℕ} → Fitting d at s d′ at′ → Fitting d′ at′ t d″ at″ → Fitting d at (s ++ t) d″ at″
+  fit-both {t} f g = record {
+    wrote = λ h.
+        let w = f .wrote (omega (arith, length-append s t)) in
+        then w (g .wrote (omega (arith, length-append s t, w .moved, w .same)));
+  }
+
+pub fit-then : {d : List ℕ} {at : ℕ} {s d′ : List ℕ} {at′ : ℕ} {t d″ : List ℕ} {at″ : ℕ} → Fitting d at s d′ at′ → Put d′ at′ t d″ at″ → Fitting d at (s ++ t) d″ at″
+fit-then f p = fit-both f (fit p)
+
+-- ---- parts in a row
+
+module _ (f : ℕ → List ℕ) where
+  joined-more : (n : ℕ) → joined (n + 1) f ≡ joined n f ++ f n
+  unfolding joined
+  joined-more n = rw add-one
+
+  pub none-yet : (d : List ℕ) (at : ℕ) → at ≤ length d → Wrote d at (joined 0 f) d at
+  unfolding joined
+  none-yet d at h = nothing d at h
+
+  pub one-more : {d : List ℕ} {at : ℕ} (n : ℕ) {d′ : List ℕ} {at′ : ℕ} {s d″ : List ℕ} {at″ : ℕ} → Wrote d at (joined n f) d′ at′ → Wrote d′ at′ s d″ at″ → s ≡ f n → Wrote d at (joined (n + 1) f) d″ at″
+  one-more n w v e = renamed (joined (n + 1) f) (then w v) (ap (λ (l : List ℕ). joined n f ++ l) e ∙ sym (joined-more n))
+
+  pub all-parts : {d : List ℕ} {at : ℕ} (n m : ℕ) {d′ : List ℕ} {at′ : ℕ} → Wrote d at (joined n f) d′ at′ → n ≡ m → Wrote d at (joined m f) d′ at′
+  all-parts n m w e = renamed (joined m f) w (ap (λ (k : ℕ). joined k f) e)
+
+pub joined-le : (n b : ℕ) (f : ℕ → List ℕ) → ((i : ℕ) → i < n → length (f i) ≤ b) → length (joined n f) ≤ b * n
+unfolding joined
+joined-le zero b f h = omega arith
+joined-le (suc n) b f h = omega (arith, length-append (joined n f) (f n), joined-le n b f (λ i l. h i (omega arith)), h n (omega arith), mul-suc b n)
+
+pub joined-ext : (n : ℕ) (f g : ℕ → List ℕ) → ((i : ℕ) → i < n → f i ≡ g i) → joined n f ≡ joined n g
+unfolding joined
+joined-ext zero f g h = refl
+joined-ext (suc n) f g h = rw (joined-ext n f g (λ i l. h i (omega arith)), h n (omega arith))
 
 -- ---- what is written at the front of a buffer
 

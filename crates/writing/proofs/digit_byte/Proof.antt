@@ -1,8 +1,8 @@
--- `listing::digit_byte` meets its contract. Assumes nothing.
+-- `writing::digit_byte` meets its contract. Assumes nothing.
 use borrow.Author.Needs.{needs}
-use Rattle.listing.proofs.Digits.{low-digit, high-digit}
-use Rattle.listing.proofs.digit_byte.Statement.{statement}
-use Rattle.listing.proofs.digit_byte.Tie as tie
+use Rattle.writing.proofs.Digits.{low-digit, high-digit}
+use Rattle.writing.proofs.digit_byte.Statement.{statement}
+use Rattle.writing.proofs.digit_byte.Tie as tie
 
 cast-result : tie.Need-cast-result
 cast-result c = search needs

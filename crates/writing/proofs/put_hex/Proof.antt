@@ -1,11 +1,11 @@
--- `listing::put_hex` meets its contract. Assumes nothing.
-use borrow.Author.Needs.{needs}
-use Rattle.listing.specs.Listing.{hexOf}
-use Rattle.listing.proofs.put_hex.Statement.{statement}
-use Rattle.listing.proofs.put_hex.Tie as tie
+-- `writing::put_hex` meets its contract. Assumes nothing.
+use native.Mathlib.Omega.{arith}
+use Rattle.writing.specs.Writing.{hexOf}
+use Rattle.writing.proofs.put_hex.Statement.{statement}
+use Rattle.writing.proofs.put_hex.Tie as tie
 
 put-digits-requires : tie.Need-put-digits-requires
-put-digits-requires c κs = search needs
+put-digits-requires c κs = (omega arith, omega arith)
 
 same-length : tie.Need-same-length
 same-length c = c .before .before .put-digits .kept .0

@@ -1,8 +1,8 @@
--- `listing::places` meets its contract. Assumes nothing.
+-- `writing::places` meets its contract. Assumes nothing.
 use native.Mathlib.Omega.{arith}
-use Rattle.listing.proofs.Digits.{Counting, counting-start, counting-step, counting-end, counting-le}
-use Rattle.listing.proofs.places.Statement.{statement}
-use Rattle.listing.proofs.places.Tie as tie
+use Rattle.writing.proofs.Digits.{Counting, counting-start, counting-step, counting-end, counting-le}
+use Rattle.writing.proofs.places.Statement.{statement}
+use Rattle.writing.proofs.places.Tie as tie
 
 abbrev Inv-loop : tie.InvT-loop
 Inv-loop n k₀ left₀ k left = Counting n k left
@@ -11,7 +11,7 @@ abbrev μ-loop : tie.MeasureT-loop
 μ-loop n k₀ left₀ k left = left
 
 loop-holds : tie.Need-loop-holds Inv-loop μ-loop
-loop-holds c = counting-start _ (c .pre)
+loop-holds c = counting-start _ (omega arith)
 
 add-k : tie.Need-add-k Inv-loop μ-loop
 add-k c = omega (arith, counting-le (c .before .loop .inv))
@@ -20,7 +20,7 @@ loop-less : tie.Need-loop-less Inv-loop μ-loop
 loop-less c = omega arith
 
 loop-again : tie.Need-loop-again Inv-loop μ-loop
-loop-again c = counting-step (c .before .loop .inv) (c .loop-test .taken)
+loop-again c = counting-step (c .before .loop .inv) (omega arith)
 
 returns : tie.Need-returns Inv-loop μ-loop
 returns c = counting-end (c .before .loop .inv) (c .loop-test .left)
