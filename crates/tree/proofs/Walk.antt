@@ -31,7 +31,7 @@ kept : {rows : List ℕ} {n v : ℕ} {out after : List ℕ} {r : ℕ} → Ready 
 kept {rows} {n} {v} {out} p w = ap length (w .list) ∙ length-over (leavesOf rows n v) out (p .room)
 
 -- the left child's leaves A stand at the front, and the right child's B were written to the part after them
-join : (A B out mid part : List ℕ) (l : ℕ) → l ≡ length A → mid ≡ over A out → part ≡ over B (take (length mid - l) (drop l mid))
+pub join : (A B out mid part : List ℕ) (l : ℕ) → l ≡ length A → mid ≡ over A out → part ≡ over B (take (length mid - l) (drop l mid))
     → take l mid ++ (part ++ drop (length mid - l) (drop l mid)) ≡ over (A ++ B) out
 unfolding over
 join A B out mid part l hl hm hp =

@@ -1,0 +1,6 @@
+pub mod Nodes
+pub mod Lines
+pub mod Sheet
+pub mod Judged
+pub mod Names
+pub mod Figures
