@@ -1,6 +1,6 @@
 -- Document 01, "Millionths and the job program": from a job text to its listing. "Order: 9, 15, 8, 7, the allocator's, 13"; document 02, request 3: "18, after 13";
--- and request 8: prices "in place of the covariance". Definitions only.
-use Prim.Native.Nat.{ℕ}
+-- request 8: prices "in place of the covariance"; and request 13: from a job text to its sheet. Definitions only.
+use Prim.Native.Nat.{ℕ, _+_, _-_, _*_, _<_}
 use mathlib.Core.Path.{_≡_}
 use mathlib.Core.Bool.{Bool, true, false, not}
 use mathlib.Core.List.{List, [], _∷_}
@@ -33,8 +33,13 @@ use Rattle.metrics.specs.declared.Metric.the-variants.{EqualWeighting}
 use Rattle.equal.specs.Equal.{EqualShares}
 use Rattle.millionths.specs.Millionths.{millionthsIn, millionthsLines}
 use Rattle.millionths.specs.Meaning.{Serves}
+use Rattle.tree.specs.Tree.{left, right}
+use Rattle.branches.specs.Branch.{membersOf, subtotal}
 use Rattle.listing.specs.Listing.{listing, least-listing, ListingMade}
 use Rattle.listing.specs.declared.Listed.{Listed}
+use Rattle.groups.specs.Groups.{groupSheet, leastSheet}
+use Rattle.job.specs.declared.Form.{Form}
+use Rattle.job.specs.declared.Form.the-variants as form
 
 -- ---- the allocator's call: the cells of the text, as prices or as a covariance, and nothing else
 
@@ -124,32 +129,70 @@ jobOrder text (reading.Refused r) = []
 jobOrder text (reading.Hrp n rows p d) = parity.hrpOrder d (hrp.hrpCovariance (hrpJobIn text d)) n
 jobOrder text (reading.Hcaa n rows p l d) = hierarchy.hcaaOrder d l (hcaa.hcaaCovariance (hcaaJobIn text l d)) n
 
--- ---- refusals
+-- the rows of its tree
+unfoldable pub jobRows : List ℕ → Reading → List ℕ
+unfolding hrpJobIn hcaaJobIn
+jobRows text (reading.Refused r) = []
+jobRows text (reading.Hrp n rows p d) = parity.hrpRows d (hrp.hrpCovariance (hrpJobIn text d)) n
+jobRows text (reading.Hcaa n rows p l d) = hierarchy.hcaaRows d l (hcaa.hcaaCovariance (hcaaJobIn text l d)) n
 
--- "9, 15, 8, 7", with the listing buffer's 11 after the 9
-unfoldable pub textTable : List ℕ → ℕ → List Line
-unfolding textLines
-textTable text room = (ltb most-bytes (length text), OverLimit) ∷ (ltb room least-listing, ShortBuffer) ∷ textLines text
-
-unfoldable pub jobOutcome : List ℕ → ℕ → Outcome
-unfolding textTable allocatorSays jobWeights jobIn
-jobOutcome text room =
-    andThen (first (textTable text room))
-    (andThen (allocatorSays text (jobIn text)) (first (millionthsLines (jobWeights text (jobIn text)))))
-
--- ---- the listing
+-- ---- what is printed of a job: its listing, or its sheet, with names or without
 
 unfoldable pub listingOf : List ℕ → List ℕ
 unfolding jobWeights jobOrder jobIn nameOf listing
 listingOf text = listing (nameOf text) (jobWeights text (jobIn text)) (jobOrder text (jobIn text))
 
--- what the call answers and leaves in its buffer. A refused text leaves zeros; the refusal is what is returned
+-- by the "listing's millionths"
+unfoldable pub sheetOf : List ℕ → Bool → List ℕ
+unfolding jobWeights jobRows jobIn nameOf groupSheet
+sheetOf text named = groupSheet named (nameOf text) (jobRows text (jobIn text)) (millionthsIn (jobWeights text (jobIn text))) (assets text)
+
+unfoldable pub printedOf : List ℕ → Form → List ℕ
+unfolding listingOf sheetOf
+printedOf text form.Listing = listingOf text
+printedOf text (form.Sheet named) = sheetOf text named
+
+-- ---- refusals: "the program's as in `weights`"
+
+-- the bytes that hold everything of a form
+unfoldable pub leastFor : Form → ℕ
+unfolding leastSheet
+leastFor form.Listing = least-listing
+leastFor (form.Sheet named) = leastSheet named
+
+-- "9, 15, 8, 7", with the buffer's 11 after the 9
+unfoldable pub textTable : List ℕ → Form → ℕ → List Line
+unfolding leastFor textLines
+textTable text f room = (ltb most-bytes (length text), OverLimit) ∷ (ltb room (leastFor f), ShortBuffer) ∷ textLines text
+
+unfoldable pub jobOutcome : List ℕ → Form → ℕ → Outcome
+unfolding textTable allocatorSays jobWeights jobIn
+jobOutcome text f room =
+    andThen (first (textTable text f room))
+    (andThen (allocatorSays text (jobIn text)) (first (millionthsLines (jobWeights text (jobIn text)))))
+
+-- ---- the two calls
+
+-- what a call answers and leaves in its buffer. A refused text leaves zeros; the refusal is what is returned
 pub record TextListed (text : List ℕ) (room : ℕ) (r : Listed) (out : List ℕ) : Type 0 where
-  pub made : ListingMade (jobOutcome text room) (listingOf text) room r out
+  pub made : ListingMade (jobOutcome text form.Listing room) (listingOf text) room r out
   -- document 02, request 3: an accepted text lists millionths that total 1,000,000, nobody's moved by more than one
-  pub adds-up : jobOutcome text room ≡ outcome.Done → Serves (jobWeights text (jobIn text)) (millionthsIn (jobWeights text (jobIn text)))
+  pub adds-up : jobOutcome text form.Listing room ≡ outcome.Done → Serves (jobWeights text (jobIn text)) (millionthsIn (jobWeights text (jobIn text)))
   -- demand 3: an accepted `hcaa` text by equal weighting lists equal shares, by the rows of its tree and its clusters
-  pub equal-shares : (l : Linkage) (d : Distance) → jobOutcome text room ≡ outcome.Done → jobIn text ≡ reading.Hcaa (assets text) (rowsIn text) (priced text) l d
+  pub equal-shares : (l : Linkage) (d : Distance) → jobOutcome text form.Listing room ≡ outcome.Done → jobIn text ≡ reading.Hcaa (assets text) (rowsIn text) (priced text) l d
       → hcaa.usedMetric (hcaaJobIn text l d) ≡ EqualWeighting
       → EqualShares (assets text) (hcaa.clusterCount (clustersIn text) (assets text))
       (hierarchy.hcaaRows d l (hcaa.hcaaCovariance (hcaaJobIn text l d)) (assets text)) (jobWeights text (jobIn text))
+
+-- the millionths of a node's assets
+unfoldable pub subtotalAt : List ℕ → ℕ → ℕ
+unfolding jobWeights jobRows jobIn membersOf subtotal
+subtotalAt text v = subtotal (millionthsIn (jobWeights text (jobIn text))) (membersOf (jobRows text (jobIn text)) (assets text) v)
+
+pub record TextSheeted (text : List ℕ) (named : Bool) (room : ℕ) (r : Listed) (out : List ℕ) : Type 0 where
+  pub made : ListingMade (jobOutcome text (form.Sheet named) room) (sheetOf text named) room r out
+  -- "each branch's subtotal is the sum of its two children's": row k's node is n + k
+  pub branches : jobOutcome text (form.Sheet named) room ≡ outcome.Done → (k : ℕ) → k < assets text - 1
+      → subtotalAt text (assets text + k) ≡ subtotalAt text (left (jobRows text (jobIn text)) k) + subtotalAt text (right (jobRows text (jobIn text)) k)
+  -- and so the first line's, the root's, is 1,000,000
+  pub whole : jobOutcome text (form.Sheet named) room ≡ outcome.Done → subtotalAt text (2 * assets text - 2) ≡ 1000000

@@ -1,4 +1,4 @@
-// From a job text to its listing: read, allocated, written into a lent buffer.
+// From a job text to its listing or its sheet: read, allocated, written into a lent buffer.
 
 use hcaa::Clusters;
 use heading::Asked;
@@ -14,10 +14,17 @@ ghost use mathlib.Core.Bool.{cond};
 ghost use lib.Dec.{ltb};
 ghost use lib.ListN.{length};
 ghost use Rattle.refusal.specs.declared.Refusal.the-variants.{OverLimit, ShortBuffer};
+ghost use Rattle.refusal.specs.declared.Outcome.the-variants.{Done};
 ghost use Rattle.heading.specs.Heading.{field, clustersOf};
 ghost use Rattle.reading.specs.declared.Reading.the-variants as reading;
 ghost use Rattle.job.specs.Inner.{BlankListing, Read, Allotted, Told};
-ghost use Rattle.job.specs.Job.{clustersAs, cellsIf, roomOfHrp, roomOfHcaa, TextListed};
+ghost use Rattle.job.specs.Job.{clustersAs, cellsIf, roomOfHrp, roomOfHcaa, leastFor, TextListed, TextSheeted};
+
+// What is printed of a job.
+pub enum Form {
+    Listing,
+    Sheet { named: bool },
+}
 
 // What the tail-risk metrics read of prices.
 const CONFIDENCE: f64 = 0.05;
@@ -32,22 +39,51 @@ fn cells_if(given: bool, cells: &[f64]) -> &[f64]
     &cells[..0]
 }
 
-// The listing of an allocator's answer for the assets whose names begin at `starts`.
+// An allocator's answer for the assets whose names begin at `starts`, printed.
+fn print(
+    text: &[u8],
+    starts: &[usize],
+    rows: &[usize],
+    order: &[usize],
+    weights: &[f64],
+    form: Form,
+    out: &mut [u8],
+) -> Listed
+    requires { ⌜ Allotted (now text) (now starts) (now rows) (now order) (now weights) Done ⌝ }
+    requires { ⌜ BlankListing form (now out) ⌝ }
+    ensures { λ r. ⌜ Told (now (text .entry)) form (length (now (out .entry))) r (now (out .exit)) ⌝ }
+{
+    let n = starts.len();
+    match form {
+        Form::Listing => listing::sheet(text, starts, &weights[..n], &order[..n], out),
+        Form::Sheet { named } => groups::group_sheet(
+            text,
+            starts,
+            &weights[..n],
+            &rows[..2 * (n - 1)],
+            named,
+            out,
+        ),
+    }
+}
+
+// What the allocator said; where it accepts, its answer printed.
 fn finish(
     text: &[u8],
     starts: &[usize],
-    weights: &[f64],
+    rows: &[usize],
     order: &[usize],
+    weights: &[f64],
     said: Outcome,
+    form: Form,
     out: &mut [u8],
 ) -> Listed
-    requires { ⌜ Allotted (now text) (now starts) (now weights) (now order) said ⌝ }
-    requires { ⌜ BlankListing (now out) ⌝ }
-    ensures { λ r. ⌜ Told (now (text .entry)) (length (now (out .entry))) r (now (out .exit)) ⌝ }
+    requires { ⌜ Allotted (now text) (now starts) (now rows) (now order) (now weights) said ⌝ }
+    requires { ⌜ BlankListing form (now out) ⌝ }
+    ensures { λ r. ⌜ Told (now (text .entry)) form (length (now (out .entry))) r (now (out .exit)) ⌝ }
 {
-    let n = starts.len();
     match said {
-        Outcome::Done => listing::sheet(text, starts, &weights[..n], &order[..n], out),
+        Outcome::Done => print(text, starts, rows, order, weights, form, out),
         Outcome::Refused(r) => Listed::Refused(r),
     }
 }
@@ -66,6 +102,7 @@ fn hrp_in(
     lines: usize,
     priced: bool,
     distance: Distance,
+    form: Form,
     out: &mut [u8],
 ) -> Listed
     requires { ⌜ record {
@@ -77,8 +114,8 @@ fn hrp_in(
       scratch = length (now scratch);
     } ≡ roomOfHrp ⌝ }
     requires { ⌜ Read (now text) (reading.Hrp (length (now starts)) lines priced distance) (now cells) (now starts) ⌝ }
-    requires { ⌜ BlankListing (now out) ⌝ }
-    ensures { λ r. ⌜ Told (now (text .entry)) (length (now (out .entry))) r (now (out .exit)) ⌝ }
+    requires { ⌜ BlankListing form (now out) ⌝ }
+    ensures { λ r. ⌜ Told (now (text .entry)) form (length (now (out .entry))) r (now (out .exit)) ⌝ }
 {
     let n = starts.len();
     let said = hrp::allocate(
@@ -99,7 +136,7 @@ fn hrp_in(
         distances,
         scratch,
     );
-    finish(text, starts, weights, order, said, out)
+    finish(text, starts, rows, order, weights, said, form, out)
 }
 
 fn by_hrp(
@@ -109,11 +146,12 @@ fn by_hrp(
     lines: usize,
     priced: bool,
     distance: Distance,
+    form: Form,
     out: &mut [u8],
 ) -> Listed
     requires { ⌜ Read (now text) (reading.Hrp (length (now starts)) lines priced distance) (now cells) (now starts) ⌝ }
-    requires { ⌜ BlankListing (now out) ⌝ }
-    ensures { λ r. ⌜ Told (now (text .entry)) (length (now (out .entry))) r (now (out .exit)) ⌝ }
+    requires { ⌜ BlankListing form (now out) ⌝ }
+    ensures { λ r. ⌜ Told (now (text .entry)) form (length (now (out .entry))) r (now (out .exit)) ⌝ }
 {
     let mut rows = [0usize; 126];
     let mut order = [0usize; 64];
@@ -134,6 +172,7 @@ fn by_hrp(
         lines,
         priced,
         distance,
+        form,
         out,
     )
 }
@@ -163,12 +202,13 @@ fn hcaa_in(
     priced: bool,
     linkage: Linkage,
     distance: Distance,
+    form: Form,
     out: &mut [u8],
 ) -> Listed
     requires { ⌜ record { rows = length (now rows); order = length (now order); weights = length (now weights); scratch = length (now scratch) } ≡ roomOfHcaa ⌝ }
     requires { ⌜ Read (now text) (reading.Hcaa (length (now starts)) lines priced linkage distance) (now cells) (now starts) ⌝ }
-    requires { ⌜ BlankListing (now out) ⌝ }
-    ensures { λ r. ⌜ Told (now (text .entry)) (length (now (out .entry))) r (now (out .exit)) ⌝ }
+    requires { ⌜ BlankListing form (now out) ⌝ }
+    ensures { λ r. ⌜ Told (now (text .entry)) form (length (now (out .entry))) r (now (out .exit)) ⌝ }
 {
     let n = starts.len();
     let line = fields::piece(text, b'\n', 0);
@@ -194,7 +234,7 @@ fn hcaa_in(
         weights,
         scratch,
     );
-    finish(text, starts, weights, order, said, out)
+    finish(text, starts, rows, order, weights, said, form, out)
 }
 
 fn by_hcaa(
@@ -205,11 +245,12 @@ fn by_hcaa(
     priced: bool,
     linkage: Linkage,
     distance: Distance,
+    form: Form,
     out: &mut [u8],
 ) -> Listed
     requires { ⌜ Read (now text) (reading.Hcaa (length (now starts)) lines priced linkage distance) (now cells) (now starts) ⌝ }
-    requires { ⌜ BlankListing (now out) ⌝ }
-    ensures { λ r. ⌜ Told (now (text .entry)) (length (now (out .entry))) r (now (out .exit)) ⌝ }
+    requires { ⌜ BlankListing form (now out) ⌝ }
+    ensures { λ r. ⌜ Told (now (text .entry)) form (length (now (out .entry))) r (now (out .exit)) ⌝ }
 {
     let mut rows = [0usize; 126];
     let mut order = [0usize; 64];
@@ -227,16 +268,23 @@ fn by_hcaa(
         priced,
         linkage,
         distance,
+        form,
         out,
     )
 }
 
-// The listing of a text, by way of its cells and the places where its assets' names begin.
-fn list_job(cells: &mut [f64], starts: &mut [usize], text: &[u8], out: &mut [u8]) -> Listed
+// What is asked of a text, by way of its cells and the places where its assets' names begin.
+fn print_job(
+    cells: &mut [f64],
+    starts: &mut [usize],
+    text: &[u8],
+    form: Form,
+    out: &mut [u8],
+) -> Listed
     requires { ⌜ length (now cells) ≡ 4096 ⌝ }
     requires { ⌜ length (now starts) ≡ 64 ⌝ }
-    requires { ⌜ BlankListing (now out) ⌝ }
-    ensures { λ r. ⌜ Told (now (text .entry)) (length (now (out .entry))) r (now (out .exit)) ⌝ }
+    requires { ⌜ BlankListing form (now out) ⌝ }
+    ensures { λ r. ⌜ Told (now (text .entry)) form (length (now (out .entry))) r (now (out .exit)) ⌝ }
 {
     let read = reading::read_job(text, cells, starts);
     match read {
@@ -255,6 +303,7 @@ fn list_job(cells: &mut [f64], starts: &mut [usize], text: &[u8], out: &mut [u8]
                 rows,
                 priced,
                 distance,
+                form,
                 out,
             )
         }
@@ -274,13 +323,24 @@ fn list_job(cells: &mut [f64], starts: &mut [usize], text: &[u8], out: &mut [u8]
                 priced,
                 linkage,
                 distance,
+                form,
                 out,
             )
         }
     }
 }
 
-// Why a call is refused whose buffer has no room for every listing.
+// The bytes that hold everything of a form.
+fn least_for(form: Form) -> usize
+    ensures { λ r. ⌜ r ≡ leastFor form ⌝ }
+{
+    match form {
+        Form::Listing => listing::LEAST_LISTING,
+        Form::Sheet { named } => groups::least_sheet(named),
+    }
+}
+
+// Why a call is refused whose buffer is too short.
 fn unlisted(bytes: usize) -> Refusal
     ensures { λ r. ⌜ r ≡ cond (ltb 65536 bytes) OverLimit ShortBuffer ⌝ }
 {
@@ -290,15 +350,29 @@ fn unlisted(bytes: usize) -> Refusal
     Refusal::ShortBuffer
 }
 
-// The listing of a job text, at the front of out. A refused text leaves zeros: `listing::refusal_line` writes its line.
-pub fn text_to_listing(text: &[u8], out: &mut [u8]) -> Listed
-    ensures { λ r. ⌜ TextListed (now (text .entry)) (length (now (out .entry))) r (now (out .exit)) ⌝ }
+// What is asked of a text, at the front of out. A refused text leaves zeros: `listing::refusal_line` writes its line.
+fn text_to(text: &[u8], form: Form, out: &mut [u8]) -> Listed
+    ensures { λ r. ⌜ Told (now (text .entry)) form (length (now (out .entry))) r (now (out .exit)) ⌝ }
 {
     lent::clear_bytes_from(out, 0);
-    if out.len() < listing::LEAST_LISTING {
+    if out.len() < least_for(form) {
         return Listed::Refused(unlisted(text.len()));
     }
     let mut cells = [0.0; 4096];
     let mut starts = [0usize; 64];
-    list_job(&mut cells, &mut starts, text, out)
+    print_job(&mut cells, &mut starts, text, form, out)
+}
+
+// The listing of a job text.
+pub fn text_to_listing(text: &[u8], out: &mut [u8]) -> Listed
+    ensures { λ r. ⌜ TextListed (now (text .entry)) (length (now (out .entry))) r (now (out .exit)) ⌝ }
+{
+    text_to(text, Form::Listing, out)
+}
+
+// The sheet of a job text: a line for each node of its tree.
+pub fn text_to_sheet(text: &[u8], named: bool, out: &mut [u8]) -> Listed
+    ensures { λ r. ⌜ TextSheeted (now (text .entry)) named (length (now (out .entry))) r (now (out .exit)) ⌝ }
+{
+    text_to(text, Form::Sheet { named }, out)
 }

@@ -26,7 +26,7 @@ hrp-in-requires : tie.Need-hrp-in-requires
 hrp-in-requires c κs = (refl, c .before .before .before .before .before .before .before .before .before .before .before .pre)
 
 same-length : tie.Need-same-length
-same-length c = c .before .before .before .before .before .before .before .before .hrp-in .kept .1 .1 .1 .1 .1 .1 .1 .1 .1 .1 .1 .1 .0
+same-length c = c .before .before .before .before .before .before .before .before .hrp-in .kept .1 .1 .1 .1 .1 .1 .1 .1 .1 .1 .1 .1 .1 .0
 
 returns : tie.Need-returns
 returns c = search needs

@@ -1,12 +1,12 @@
--- `job::list_job` meets its contract. Assumes nothing.
+-- `job::print_job` meets its contract. Assumes nothing.
 use native.Mathlib.Omega.{arith}
 use mathlib.Core.Path.{sym}
 use lib.Seq.{length-take-le}
 use Rattle.job.proofs.Ends.{job-unread, told-refused}
 use Rattle.job.proofs.Jobs.{unread, hrp-sized, hrp-begun, hcaa-sized, hcaa-begun}
 use borrow.Author.Needs.{needs}
-use Rattle.job.proofs.list_job.Statement.{statement}
-use Rattle.job.proofs.list_job.Tie as tie
+use Rattle.job.proofs.print_job.Statement.{statement}
+use Rattle.job.proofs.print_job.Tie as tie
 
 read-job-requires : tie.Need-read-job-requires
 read-job-requires c κs = search needs
@@ -109,7 +109,7 @@ same-length-2 c = c .before .before .before .before .before .before .before .rea
 returns : tie.Need-returns
 returns c =
     let p = c .before .before .before .before .before .before .before .before .before .before .before .before .before .before .pre in
-    told-refused _ _ _ _ (job-unread _ _ (p .1 .1 .room) _ (unread _ _ _ (p .0) (p .1 .0) _ (c .before .before .before .before .before .before .before .read-job .ensures .0) _ (c .before .read .given .1))) (p .1 .1 .zero)
+    told-refused _ _ _ _ _ (job-unread _ _ _ (p .1 .1 .room) _ (unread _ _ _ (p .0) (p .1 .0) _ (c .before .before .before .before .before .before .before .read-job .ensures .0) _ (c .before .read .given .1))) (p .1 .1 .zero)
 
 same-length-3 : tie.Need-same-length-3
 same-length-3 c = c .before .before .before .before .before .before .before .before .before .before .before .before .before .read-job .kept .1 .0
@@ -118,7 +118,7 @@ same-length-4 : tie.Need-same-length-4
 same-length-4 c = c .before .before .before .before .before .before .before .before .before .before .before .before .before .read-job .kept .1 .1 .0
 
 same-length-5 : tie.Need-same-length-5
-same-length-5 c = c .before .before .by-hrp .kept .1 .1 .1 .1 .1 .1 .0
+same-length-5 c = c .before .before .by-hrp .kept .1 .1 .1 .1 .1 .1 .1 .0
 
 returns-2 : tie.Need-returns-2
 returns-2 c = search needs
@@ -130,13 +130,13 @@ same-length-7 : tie.Need-same-length-7
 same-length-7 c = c .before .before .before .before .before .before .before .before .before .before .before .before .before .read-job .kept .1 .1 .0
 
 same-length-8 : tie.Need-same-length-8
-same-length-8 c = c .before .before .by-hcaa .kept .1 .1 .1 .1 .1 .1 .1 .0
+same-length-8 c = c .before .before .by-hcaa .kept .1 .1 .1 .1 .1 .1 .1 .1 .0
 
 returns-3 : tie.Need-returns-3
 returns-3 c = search needs
 
-pub list-job-spec : {M : Type 1} → statement M
-list-job-spec =
+pub print-job-spec : {M : Type 1} → statement M
+print-job-spec =
     tie.close
     (tie.spec
     read-job-requires
