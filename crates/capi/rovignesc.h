@@ -87,6 +87,15 @@ uint8_t rovignesc_listing(const uint8_t *text, size_t text_len,
                           uint8_t *listing, size_t listing_len,
                           size_t *bytes, size_t bytes_len);
 
+/* A job text to its sheet: a line for each node of its tree, from the root down, left first: depth, size and the subtotal of the listing's millionths,
+   with tabs between. With names (named is not 0) the same lines, each indented by two spaces for each node above, and the asset's name after a tab on a
+   leaf's. The sheet takes at least 8192 bytes, 32768 with names (else 11); bytes has room for one number (else 11): how many bytes of it there are. A
+   refused text has no sheet: every byte is zero, and the number too.
+   The first line's subtotal, the root's, is 1,000,000, and each branch's is the sum of its two children's. */
+uint8_t rovignesc_sheet(const uint8_t *text, size_t text_len, uint8_t named,
+                        uint8_t *sheet, size_t sheet_len,
+                        size_t *bytes, size_t bytes_len);
+
 /* The line of a refusal's number: "refused", tab, number, newline, 12 bytes at most. The line takes as many (else 11); bytes has room for one number
    (else 11): how many bytes of it there are. */
 uint8_t rovignesc_refusal_line(uint8_t number,

@@ -17,7 +17,7 @@ use Rattle.refusal.specs.declared.Outcome.{Outcome}
 use Rattle.refusal.specs.declared.Outcome.the-variants.{Done, Refused}
 use Rattle.refusal.proofs.Tables.{done-refused, none, table-hit, table-pass, then-done, then-refused, both-done}
 use Rattle.lent.specs.Grid.{noughts, over}
-use Rattle.lent.specs.Lent.{answerOf, toldOf, laid}
+use Rattle.lent.specs.Lent.{isSet, answerOf, toldOf, laid}
 use Rattle.lent.specs.declared.Shape.{Shape}
 use Rattle.lent.specs.declared.Answer.{Answer}
 use Rattle.lent.specs.declared.Answer.the-variants as answer
@@ -45,11 +45,13 @@ use Rattle.metrics.specs.declared.Metric.the-variants.{EqualWeighting}
 use Rattle.equal.specs.Equal.{EqualShares}
 use Rattle.listing.specs.Listing.{refusalLine, listedAs, bytesIn, listedTells, ListingMade, refusalOutcome}
 use Rattle.listing.specs.declared.Listed.{Listed}
-use Rattle.job.specs.Job.{textTable, jobOutcome, listingOf, TextListed}
+use Rattle.job.specs.Job.{textTable, jobOutcome, listingOf, sheetOf, TextListed, TextSheeted}
+use Rattle.job.specs.declared.Form.{Form}
+use Rattle.job.specs.declared.Form.the-variants as form
 use Rattle.foreign.specs.Foreign.{distanceSays, linkageSays, distanceMeant, linkageMeant, askedLines, askedLaid, countLines, mergeSizes, leafSizes, byteLines}
 use Rattle.foreign.proofs.Stages.{then-assoc, numberIn, told-number}
 use Rattle.foreign.proofs.Judges.{blank-length, number-done}
-use Rattle.capi.specs.Capi.{namedHrpOutcome, HrpAnswer, namedHcaaOutcome, HcaaAnswer, mergeOutcome, MergeAnswer, leafOutcome, LeafAnswer, listingOutcome, ListingAnswer, lineOutcome, LineAnswer}
+use Rattle.capi.specs.Capi.{namedHrpOutcome, HrpAnswer, namedHcaaOutcome, HcaaAnswer, mergeOutcome, MergeAnswer, leafOutcome, LeafAnswer, listingOutcome, ListingAnswer, sheetedOutcome, SheetAnswer, lineOutcome, LineAnswer}
 
 -- ---- hierarchical risk parity: the shapes are read from the flags, and the distance from its name
 
@@ -226,7 +228,7 @@ module _ (rows : List ℕ) (n v room count : ℕ) (said : Outcome) (blank : List
             leaves-are = w ∙ rw (z, ← b .1) (laid-done 0 _ count (m ∷ []) s);
           }
 
--- ---- a job text to its listing, and a refusal's line: the place for the number of bytes is cleared to blank before
+-- ---- a job text to its listing or its sheet, and a refusal's line: the place for the number of bytes is cleared to blank before
 
 nothing-put : (count : ℕ) → 1 ≤ count → set (noughts count) 0 0 ≡ noughts count
 nothing-put zero h = absurd (omega arith)
@@ -258,44 +260,81 @@ unfolding first andThen
 no-line true q k l o = refl
 no-line false q k l o = refl
 
-pub listing-outcome : (text : List ℕ) (room count : ℕ) → 1 ≤ count → listingOutcome text room count ≡ jobOutcome text room
-unfolding listingOutcome byteLines jobOutcome textTable
-listing-outcome text room count h = rw (le-ltb count 1 h) (no-line _ _ _ _ _)
+-- what is printed of a text, and how many bytes of it there are
+record Printed (o : Outcome) (s : List ℕ) (room count r : ℕ) (out bytes : List ℕ) : Type 0 where
+  answer : r ≡ numberIn o
+  out-is : out ≡ laid 0 o room s
+  bytes-are : bytes ≡ laid 0 o count (length s ∷ [])
 
-none-placed : (text : List ℕ) (room count : ℕ) → ltb count 1 ≡ true → first (byteLines (length text) count) ≡ listingOutcome text room count
-unfolding listingOutcome byteLines
-none-placed text room count t = rw t (last-line _ _ _ _)
+module _ (text : List ℕ) (f : Form) (room count : ℕ) where
+  abbrev said-of : Outcome
+  said-of = andThen (first (byteLines (length text) count)) (jobOutcome text f room)
 
-refused-by : (text : List ℕ) (count : ℕ) → ltb count 1 ≡ true → (k : Refusal) × (first (byteLines (length text) count) ≡ Refused k)
-unfolding byteLines first
-refused-by text count t = rw t (go (ltb 65536 (length text)))
-  where
-    go : (b : Bool) → (k : Refusal) × (first ((b, OverLimit) ∷ (true, ShortBuffer) ∷ []) ≡ Refused k)
-    go true = (OverLimit, refl)
-    go false = (ShortBuffer, refl)
+  placed : 1 ≤ count → said-of ≡ jobOutcome text f room
+  unfolding byteLines jobOutcome textTable
+  placed h = rw (le-ltb count 1 h) (no-line _ _ _ _ _)
+
+  none-placed : ltb count 1 ≡ true → first (byteLines (length text) count) ≡ said-of
+  unfolding byteLines
+  none-placed t = rw t (last-line _ _ _ _)
+
+  refused-by : ltb count 1 ≡ true → (k : Refusal) × (first (byteLines (length text) count) ≡ Refused k)
+  unfolding byteLines first
+  refused-by t = rw t (go (ltb 65536 (length text)))
+    where
+      go : (b : Bool) → (k : Refusal) × (first ((b, OverLimit) ∷ (true, ShortBuffer) ∷ []) ≡ Refused k)
+      go true = (OverLimit, refl)
+      go false = (ShortBuffer, refl)
+
+  module _ (s blank : List ℕ) (z : blank ≡ noughts count) where
+    print-none : length blank < 1 → (said : Outcome) → said ≡ first (byteLines (length text) (length blank)) → (r : ℕ) → r ≡ numberIn said → (out : List ℕ) → out ≡ noughts room
+        → Printed said-of s room count r out blank
+    print-none h said e r a out y =
+        let n = blank-length count blank z in
+        let t : ltb count 1 ≡ true = lt-ltb count 1 (omega (arith, h, n)) in
+        let f : first (byteLines (length text) (length blank)) ≡ said-of = ap (λ (k : ℕ). first (byteLines (length text) k)) n ∙ none-placed t in
+        let k = refused-by t in
+        let o : said-of ≡ Refused (k .0) = sym f ∙ ap (λ (m : ℕ). first (byteLines (length text) m)) n ∙ k .1 in
+        record { answer = a ∙ ap numberIn (e ∙ f); out-is = y ∙ laid-refused 0 _ (k .0) _ _ o; bytes-are = z ∙ laid-refused 0 _ (k .0) _ _ o }
+
+    print-made : 1 ≤ length blank → (l : Listed) (out : List ℕ) → ListingMade (jobOutcome text f room) s room l out → (k : ℕ) → k ≡ bytesIn l → (r : ℕ) → r ≡ listedTells l .number
+        → Printed said-of s room count r out (set blank 0 k)
+    print-made h l out m k ek r a =
+        let long : 1 ≤ count = omega (arith, h, blank-length count blank z) in
+        let o = placed long in
+        record {
+          answer = number-told _ _ room count blank z l out m r a ∙ ap numberIn (sym o);
+          out-is = m .bytes-are ∙ ap (λ (x : Outcome). laid 0 x room s) (sym o);
+          bytes-are = bytes-put _ _ room count blank z l out m long k ek ∙ ap (λ (x : Outcome). laid 0 x count (length s ∷ [])) (sym o);
+        }
+
+listing-as : (text : List ℕ) (room count r : ℕ) (listing bytes : List ℕ) → Printed (said-of text form.Listing room count) (listingOf text) room count r listing bytes → ListingAnswer text room count r listing bytes
+unfolding listingOutcome
+listing-as text room count r listing bytes p = record { answer = p .answer; listing-is = p .out-is; bytes-are = p .bytes-are }
 
 module _ (text : List ℕ) (room count : ℕ) (blank : List ℕ) (z : blank ≡ noughts count) where
   pub listing-none : length blank < 1 → (said : Outcome) → said ≡ first (byteLines (length text) (length blank)) → (r : ℕ) → r ≡ numberIn said → (listing : List ℕ) → listing ≡ noughts room
       → ListingAnswer text room count r listing blank
-  listing-none h said e r a listing y =
-      let n = blank-length count blank z in
-      let t : ltb count 1 ≡ true = lt-ltb count 1 (omega (arith, h, n)) in
-      let f : first (byteLines (length text) (length blank)) ≡ listingOutcome text room count = ap (λ (k : ℕ). first (byteLines (length text) k)) n ∙ none-placed text room count t in
-      let k = refused-by text count t in
-      let o : listingOutcome text room count ≡ Refused (k .0) = sym f ∙ ap (λ (m : ℕ). first (byteLines (length text) m)) n ∙ k .1 in
-      record { answer = a ∙ ap numberIn (e ∙ f); listing-is = y ∙ laid-refused 0 _ (k .0) _ _ o; bytes-are = z ∙ laid-refused 0 _ (k .0) _ _ o }
+  listing-none h said e r a listing y = listing-as text room count r listing blank (print-none text form.Listing room count (listingOf text) blank z h said e r a listing y)
 
   pub listing-made : 1 ≤ length blank → (l : Listed) (listing : List ℕ) → TextListed text room l listing → (k : ℕ) → k ≡ bytesIn l → (r : ℕ) → r ≡ listedTells l .number
       → ListingAnswer text room count r listing (set blank 0 k)
-  listing-made h l listing y k ek r a =
-      let long : 1 ≤ count = omega (arith, h, blank-length count blank z) in
-      let o = listing-outcome text room count long in
-      let m = y .made in
-      record {
-        answer = number-told _ _ room count blank z l listing m r a ∙ ap numberIn (sym o);
-        listing-is = m .bytes-are ∙ ap (λ (x : Outcome). laid 0 x room (listingOf text)) (sym o);
-        bytes-are = bytes-put _ _ room count blank z l listing m long k ek ∙ ap (λ (x : Outcome). laid 0 x count (length (listingOf text) ∷ [])) (sym o);
-      }
+  listing-made h l listing y k ek r a = listing-as text room count r listing (set blank 0 k) (print-made text form.Listing room count (listingOf text) blank z h l listing (y .made) k ek r a)
+
+sheet-as : (text : List ℕ) (named room count r : ℕ) (sheet bytes : List ℕ) → Printed (said-of text (form.Sheet (isSet named)) room count) (sheetOf text (isSet named)) room count r sheet bytes
+    → SheetAnswer text named room count r sheet bytes
+unfolding sheetedOutcome
+sheet-as text named room count r sheet bytes p = record { answer = p .answer; sheet-is = p .out-is; bytes-are = p .bytes-are }
+
+module _ (text : List ℕ) (named room count : ℕ) (blank : List ℕ) (z : blank ≡ noughts count) where
+  pub sheet-none : length blank < 1 → (said : Outcome) → said ≡ first (byteLines (length text) (length blank)) → (r : ℕ) → r ≡ numberIn said → (sheet : List ℕ) → sheet ≡ noughts room
+      → SheetAnswer text named room count r sheet blank
+  sheet-none h said e r a sheet y = sheet-as text named room count r sheet blank (print-none text (form.Sheet (isSet named)) room count (sheetOf text (isSet named)) blank z h said e r a sheet y)
+
+  pub sheet-made : 1 ≤ length blank → (l : Listed) (sheet : List ℕ) → TextSheeted text (isSet named) room l sheet → (k : ℕ) → k ≡ bytesIn l → (r : ℕ) → r ≡ listedTells l .number
+      → SheetAnswer text named room count r sheet (set blank 0 k)
+  sheet-made h l sheet y k ek r a =
+      sheet-as text named room count r sheet (set blank 0 k) (print-made text (form.Sheet (isSet named)) room count (sheetOf text (isSet named)) blank z h l sheet (y .made) k ek r a)
 
 module _ (number room count : ℕ) (blank : List ℕ) (z : blank ≡ noughts count) where
   pub line-none : length blank < 1 → (r : ℕ) → r ≡ 11 → (line : List ℕ) → line ≡ noughts room → LineAnswer number room count r line blank

@@ -26,7 +26,8 @@ use Rattle.hcaa.specs.declared.Clusters.the-variants.{All, Count}
 use Rattle.metrics.specs.declared.Metric.the-variants.{EqualWeighting}
 use Rattle.equal.specs.Equal.{EqualShares}
 use Rattle.listing.specs.Listing.{refusalLine, refusalOutcome}
-use Rattle.job.specs.Job.{jobOutcome, listingOf}
+use Rattle.job.specs.Job.{jobOutcome, listingOf, sheetOf}
+use Rattle.job.specs.declared.Form.the-variants.{Listing, Sheet}
 use Rattle.foreign.specs.Foreign.{distanceSays, linkageSays, linkageMeant, askedLines, askedLaid, countLines, mergeSizes, leafSizes, byteLines}
 
 -- ---- hierarchical risk parity
@@ -104,12 +105,24 @@ pub record LeafAnswer (rows : List ℕ) (n v room count r : ℕ) (order leaves :
 -- then as the call behind, which has a listing of `room` bytes
 unfoldable pub listingOutcome : List ℕ → ℕ → ℕ → Outcome
 unfolding byteLines
-listingOutcome text room count = andThen (first (byteLines (length text) count)) (jobOutcome text room)
+listingOutcome text room count = andThen (first (byteLines (length text) count)) (jobOutcome text Listing room)
 
 pub record ListingAnswer (text : List ℕ) (room count r : ℕ) (listing bytes : List ℕ) : Type 0 where
   pub answer : r ≡ outcomeTells (listingOutcome text room count) .number
   pub listing-is : listing ≡ laid 0 (listingOutcome text room count) room (listingOf text)
   pub bytes-are : bytes ≡ laid 0 (listingOutcome text room count) count (length (listingOf text) ∷ [])
+
+-- ---- a job text to its sheet, with names where a flag says so, and how many bytes of it there are
+
+-- then as the call behind, which has a sheet of `room` bytes
+unfoldable pub sheetedOutcome : List ℕ → ℕ → ℕ → ℕ → Outcome
+unfolding byteLines
+sheetedOutcome text named room count = andThen (first (byteLines (length text) count)) (jobOutcome text (Sheet (isSet named)) room)
+
+pub record SheetAnswer (text : List ℕ) (named room count r : ℕ) (sheet bytes : List ℕ) : Type 0 where
+  pub answer : r ≡ outcomeTells (sheetedOutcome text named room count) .number
+  pub sheet-is : sheet ≡ laid 0 (sheetedOutcome text named room count) room (sheetOf text (isSet named))
+  pub bytes-are : bytes ≡ laid 0 (sheetedOutcome text named room count) count (length (sheetOf text (isSet named)) ∷ [])
 
 -- ---- "a refusal prints `refused`, tab, number": its line of `room` bytes, and how many bytes of it there are
 

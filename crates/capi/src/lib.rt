@@ -16,7 +16,7 @@ ghost use Rattle.arithmetic.specs.Root.{root};
 ghost use Rattle.linkage.specs.Names.{distanceNamed, linkageNamed};
 ghost use Rattle.lent.specs.Lent.{isSet, shapeOf};
 ghost use Rattle.foreign.specs.Foreign.{distanceMeant, linkageMeant};
-ghost use Rattle.capi.specs.Capi.{HrpAnswer, clustersFor, HcaaAnswer, CovarianceAnswer, MergeAnswer, LeafAnswer, ListingAnswer, LineAnswer};
+ghost use Rattle.capi.specs.Capi.{HrpAnswer, clustersFor, HcaaAnswer, CovarianceAnswer, MergeAnswer, LeafAnswer, ListingAnswer, SheetAnswer, LineAnswer};
 
 // The square root of a double.
 #[no_mangle]
@@ -373,6 +373,26 @@ pub extern "C" fn rovignesc_listing(text: &[u8], listing: &mut [u8], bytes: &mut
         return foreign::number(foreign::judge_bytes(text.len(), bytes.len()));
     }
     let listed = job::text_to_listing(text, listing);
+    bytes[0] = listing::bytes(listed);
+    foreign::number_listed(listed)
+}
+
+// A job text to its sheet, and how many bytes of it there are.
+#[no_mangle]
+pub extern "C" fn rovignesc_sheet(
+    text: &[u8],
+    named: u8,
+    sheet: &mut [u8],
+    bytes: &mut [usize],
+) -> u8
+    ensures { λ r. ⌜ SheetAnswer (now (text .entry)) named (length (now (sheet .entry))) (length (now (bytes .entry))) r (now (sheet .exit)) (now (bytes .exit)) ⌝ }
+{
+    lent::clear_numbers(bytes);
+    if bytes.len() < 1 {
+        lent::clear_bytes(sheet);
+        return foreign::number(foreign::judge_bytes(text.len(), bytes.len()));
+    }
+    let listed = job::text_to_sheet(text, named != 0, sheet);
     bytes[0] = listing::bytes(listed);
     foreign::number_listed(listed)
 }

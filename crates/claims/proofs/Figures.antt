@@ -1,4 +1,4 @@
--- Document 01, "Figures to check (P: proved)": its P figures, document 02's of request 1, and three job texts with their listings, as one table under one claim, computed from the definitions that the public functions' contracts cite. Assumes nothing.
+-- Document 01, "Figures to check (P: proved)": its P figures, document 02's of request 1, and three job texts with their listings, the first with its sheet too, as one table under one claim, computed from the definitions that the public functions' contracts cite. Assumes nothing.
 use mathlib.Core.Path.{_≡_, refl}
 use mathlib.Core.Bool.{Bool, true, false, _&&_}
 use mathlib.Core.List.{List, [], _∷_, _++_, map}
@@ -14,7 +14,7 @@ use Rattle.refusal.specs.Refusal.{numberOf, valuesOf}
 use Rattle.refusal.specs.Table.{first, andThen}
 use Rattle.refusal.specs.declared.Outcome.{Outcome}
 use Rattle.refusal.specs.declared.Outcome.the-variants as outcome
-use Rattle.lent.specs.Count.{count, upto}
+use Rattle.lent.specs.Count.{count, upto, overAll}
 use Rattle.lent.specs.Grid.{tab, grid, sumTo, sumOn, sumRows, anyTo}
 use Rattle.lent.specs.Range.{span, range}
 use Rattle.lent.specs.Lent.{shapeOf, overLimit, otherLength, tooBig, misfits, sizes, laid}
@@ -59,8 +59,12 @@ use Rattle.parity.specs.Parity as parity
 use Rattle.hierarchy.specs.Hierarchy as hierarchy
 use Rattle.hrp.specs.Hrp as hrp
 use Rattle.hcaa.specs.Hcaa as hcaa
+use Rattle.writing.specs.Writing as writing
 use Rattle.listing.specs.Listing as listing
+use Rattle.branches.specs.Branch as branch
+use Rattle.groups.specs.Groups as groups
 use Rattle.job.specs.Job as job
+use Rattle.job.specs.declared.Form.the-variants as form
 use Rattle.hcaa.specs.declared.Clusters.{Clusters}
 use Rattle.hcaa.specs.declared.Clusters.the-variants.{All, Count}
 
@@ -305,7 +309,11 @@ hrps d =
 
 -- a text is accepted, and lists this
 abbrev lists : List ℕ → List ℕ → Bool
-lists t l = same (told (job.jobOutcome t 8192)) (0 ∷ []) && same (job.listingOf t) l
+lists t l = same (told (job.jobOutcome t form.Listing 8192)) (0 ∷ []) && same (job.listingOf t) l
+
+-- and its sheet is this
+abbrev sheeted : List ℕ → Bool → ℕ → List ℕ → Bool
+sheeted t named room l = same (told (job.jobOutcome t (form.Sheet named) room)) (0 ∷ []) && same (job.sheetOf t named) l
 
 abbrev listings : List Bool
 listings =
@@ -317,6 +325,9 @@ listings =
     -- of variances 1/8 and 2: 16/17 and 1/17
     ∷ lists (bytes "hrp\tcorrelation\tprices\nA\tB\n1\t1.0\n2.00\t3\n3\t4008000000000000\n")
     (bytes "A\t3fee1e1e1e1e1e1e\t941176\nB\t3fae1e1e1e1e1e20\t58824\norder\tA\tB\n")
+    -- document 02, request 13: "a line per node from the root down, left first: depth, size, subtotal"; and with names
+    ∷ sheeted (text (bytes "-")) false 8192 (bytes "0\t3\t1000000\n1\t1\t500000\n1\t2\t500000\n2\t1\t250000\n2\t1\t250000\n")
+    ∷ sheeted (text (bytes "-")) true 32768 (bytes "0\t3\t1000000\n  1\t1\t500000\tC\n  1\t2\t500000\n    2\t1\t250000\tA\n    2\t1\t250000\tB\n")
     ∷ []
 
 -- ---- roots
@@ -338,5 +349,5 @@ table = trees ++ (hcaas ++ (tails ++ (hrps Correlation ++ (hrps DistanceOfDistan
 
 -- "The P figures are proved as one table under one claim"
 pub figures : all table ≡ true
-unfolding andThen same lower lowered isWord childrenTable childrenOutcome childrenRows wardF updateF pairBefore near better offer look scanRow scanFrom scanAll both movable moved movedAll merged step copied start stateAt mergeRows order.orderTable order.orderOutcome order.orderLaid count below once isTree grow treeAt leaves onto split digit number isBits isNumeral numeralRead decimals.isCell decimals.cellOf decimals.isDecimal decimals.decimalOf decimals.signedBy decimals.overTens decimals.digitsOf decimals.isBare decimals.shaped decimals.bare decimals.signed distanceNamed linkageNamed heading.clustersOf heading.pricesAfter heading.isOf heading.isHrp heading.isHcaa heading.isPriced heading.distanceField heading.unknownLines heading.headOf reading.priced reading.rowsIn reading.assets isName reading.isRow reading.isAsset reading.isDay reading.isNames reading.isCovariance reading.isPrices reading.isBlock reading.isJob reading.textCell reading.cellsIn reading.nameOf reading.isOver reading.textLines reading.readTable reading.readOutcome reading.jobIn reading.readOf job.cellsIf job.hrpJobIn job.hcaaJobIn job.allocatorSays job.jobWeights job.jobOrder job.textTable job.jobOutcome job.listingOf shapeOf isWeekly isMonthly stepOf keepsAll keptRows keptRow sampledCell returnCell zeroMet breaksPriceRules sampled noReturns madeReturns meanOf spread covarianceOf covarianceCell hrp.estimated hrp.shrunkIf hcaa.namesJudged hcaa.rowsJudged hcaa.sharpeJudged listing.listing listing.joined listing.lineOf listing.ordered listing.assetLine listing.decimal listing.hexOf listing.places listing.digits listing.digitByte hcaa.hcaaReturnRows hcaa.returnColumns hcaa.hcaaReturnCells hcaa.pricesRefused hcaa.rowsMade hcaa.columnsMade hcaa.cellsMade hcaa.hcaaCovarianceBy hcaa.hcaaCovariance hcaa.metricOf hcaa.usedMetric hcaa.unnamed hcaa.isMean hcaa.isExponential hcaa.expectedOf hcaa.usedExpected hcaa.clusterCount hcaa.usedRule hcaa.nameLines hcaa.matrixRules hcaa.sharpeLines hcaa.hcaaTable hcaa.hcaaOutcome hcaa.usedInputs metricNamed isSharpe isTailRisk metricTailLines nearest.noPart tail.gain tail.rowReturn tail.tailSum tail.tailCount tail.mean tail.shortfall tail.wealth tail.higher tail.peak tail.fall tail.drawdown tail.conditionalDrawdown tail.shortfallOf tail.drawdownOf ordered.hasMinus ordered.before ordered.insert ordered.insertAll ordered.sorted nearest.wholeOf nearest.place nearest.quantile hierarchy.hcaaRows hierarchy.hcaaOrder hierarchy.hcaaShares hierarchy.roomLines hierarchy.shareLines allot.downShares allot.allotted allot.insideOf allot.variedOf allot.equalOf allot.spreadOf allot.dealTo sharing.splitOf sharing.scored sharing.byRisk sharing.splitBy sharing.bounded inRange every millionthsTable millionthsOutcome millionthsIn millionthsLaid hrp.pricesAlone hrp.hrpReturnRows hrp.hrpReturnCells hrp.hrpCovarianceBy hrp.hrpCovariance hrp.hrpShapeLines hrp.numberLines hrp.hrpTable hrp.hrpOutcome absent rowsOfShape otherColumns otherSize matrixLines parity.correlationsOf parity.hrpDistances parity.treeDistances distancesIn treeRows treeOrder parity.hrpRows parity.hrpOrder parity.hrpShares parity.parityRoomLines parity.hrpRiskLines bisection.factorOf bisection.sidesFactor bisection.halved bisection.bisected bisection.normal bisection.bisectionShares tooBig misfits overLimit otherLength sizes laid first tab grid sumTo sumOn sumRows anyTo range span isNone weightsIn recip recipSum shares term varianceOf outside anyLowOf riskTable sizeTable sharesOutcome varianceOutcome varianceAnswer correlationCell anyLow clamped distanceOf distanceCell offDiagonal square between betweenCell minOf maxOf absOf clampOf finiteOf countOf oneOver root isqrt lt le eq isNan neg add sum sub mul div ofInt round units odd trailingZeros size ieee-span climb ofFields ofBits toBits wholePart leftOver wholeAt leftAt sooner rankOf wholeTotal missing millionthsAt outOfReach millionthsLines upto
+unfolding andThen same lower lowered isWord childrenTable childrenOutcome childrenRows wardF updateF pairBefore near better offer look scanRow scanFrom scanAll both movable moved movedAll merged step copied start stateAt mergeRows order.orderTable order.orderOutcome order.orderLaid count below once isTree grow treeAt leaves onto split digit number isBits isNumeral numeralRead decimals.isCell decimals.cellOf decimals.isDecimal decimals.decimalOf decimals.signedBy decimals.overTens decimals.digitsOf decimals.isBare decimals.shaped decimals.bare decimals.signed distanceNamed linkageNamed heading.clustersOf heading.pricesAfter heading.isOf heading.isHrp heading.isHcaa heading.isPriced heading.distanceField heading.unknownLines heading.headOf reading.priced reading.rowsIn reading.assets isName reading.isRow reading.isAsset reading.isDay reading.isNames reading.isCovariance reading.isPrices reading.isBlock reading.isJob reading.textCell reading.cellsIn reading.nameOf reading.isOver reading.textLines reading.readTable reading.readOutcome reading.jobIn reading.readOf job.cellsIf job.hrpJobIn job.hcaaJobIn job.allocatorSays job.jobWeights job.jobOrder job.leastFor job.textTable job.jobOutcome job.listingOf job.jobRows job.sheetOf branch.walk branch.branches branch.find branch.firstOf branch.sizeOf branch.depthOf branch.membersOf branch.subtotal overAll groups.groupOf groups.groupFields groups.indent groups.tagOf groups.groupLine groups.nodesDown groups.lineDown groups.groupSheet groups.leastSheet shapeOf isWeekly isMonthly stepOf keepsAll keptRows keptRow sampledCell returnCell zeroMet breaksPriceRules sampled noReturns madeReturns meanOf spread covarianceOf covarianceCell hrp.estimated hrp.shrunkIf hcaa.namesJudged hcaa.rowsJudged hcaa.sharpeJudged listing.listing writing.joined listing.lineOf listing.ordered listing.assetLine writing.decimal writing.hexOf writing.places writing.digits writing.digitByte hcaa.hcaaReturnRows hcaa.returnColumns hcaa.hcaaReturnCells hcaa.pricesRefused hcaa.rowsMade hcaa.columnsMade hcaa.cellsMade hcaa.hcaaCovarianceBy hcaa.hcaaCovariance hcaa.metricOf hcaa.usedMetric hcaa.unnamed hcaa.isMean hcaa.isExponential hcaa.expectedOf hcaa.usedExpected hcaa.clusterCount hcaa.usedRule hcaa.nameLines hcaa.matrixRules hcaa.sharpeLines hcaa.hcaaTable hcaa.hcaaOutcome hcaa.usedInputs metricNamed isSharpe isTailRisk metricTailLines nearest.noPart tail.gain tail.rowReturn tail.tailSum tail.tailCount tail.mean tail.shortfall tail.wealth tail.higher tail.peak tail.fall tail.drawdown tail.conditionalDrawdown tail.shortfallOf tail.drawdownOf ordered.hasMinus ordered.before ordered.insert ordered.insertAll ordered.sorted nearest.wholeOf nearest.place nearest.quantile hierarchy.hcaaRows hierarchy.hcaaOrder hierarchy.hcaaShares hierarchy.roomLines hierarchy.shareLines allot.downShares allot.allotted allot.insideOf allot.variedOf allot.equalOf allot.spreadOf allot.dealTo sharing.splitOf sharing.scored sharing.byRisk sharing.splitBy sharing.bounded inRange every millionthsTable millionthsOutcome millionthsIn millionthsLaid hrp.pricesAlone hrp.hrpReturnRows hrp.hrpReturnCells hrp.hrpCovarianceBy hrp.hrpCovariance hrp.hrpShapeLines hrp.numberLines hrp.hrpTable hrp.hrpOutcome absent rowsOfShape otherColumns otherSize matrixLines parity.correlationsOf parity.hrpDistances parity.treeDistances distancesIn treeRows treeOrder parity.hrpRows parity.hrpOrder parity.hrpShares parity.parityRoomLines parity.hrpRiskLines bisection.factorOf bisection.sidesFactor bisection.halved bisection.bisected bisection.normal bisection.bisectionShares tooBig misfits overLimit otherLength sizes laid first tab grid sumTo sumOn sumRows anyTo range span isNone weightsIn recip recipSum shares term varianceOf outside anyLowOf riskTable sizeTable sharesOutcome varianceOutcome varianceAnswer correlationCell anyLow clamped distanceOf distanceCell offDiagonal square between betweenCell minOf maxOf absOf clampOf finiteOf countOf oneOver root isqrt lt le eq isNan neg add sum sub mul div ofInt round units odd trailingZeros size ieee-span climb ofFields ofBits toBits wholePart leftOver wholeAt leftAt sooner rankOf wholeTotal missing millionthsAt outOfReach millionthsLines upto
 figures = refl

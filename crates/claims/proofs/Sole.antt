@@ -1,5 +1,5 @@
 -- No second answer fits: for each public function CRATE::FUNCTION of the libraries a theorem CRATE-FUNCTION on its own contract, which the check reads off its `ensures`: CRATE·FUNCTION.
--- Two functions return a part of a slice, `fields::piece` and `names::name`: their contracts say what bytes it has, and leave open where it lies.
+-- Three functions return a part of a slice, `fields::piece`, `names::name` and `branches::members`: their contracts say what it has, and leave open where it lies.
 -- A double is the logic's, which has one NaN. Assumes nothing.
 use Prim.Native.Nat.{ℕ}
 use mathlib.Core.Path.{_≡_, refl, sym, _∙_}
@@ -56,6 +56,11 @@ use Rattle.fields.proofs.piece as fields·piece
 use Rattle.fields.proofs.digit as fields·digit
 use Rattle.fields.proofs.read_bits as fields·read-bits
 use Rattle.fields.proofs.read_numeral as fields·read-numeral
+use Rattle.writing.proofs.put_bytes as writing·put-bytes
+use Rattle.writing.proofs.put_byte as writing·put-byte
+use Rattle.writing.proofs.put_hex as writing·put-hex
+use Rattle.writing.proofs.places as writing·places
+use Rattle.writing.proofs.put_decimal as writing·put-decimal
 use Rattle.decimals.proofs.read_decimal as decimals·read-decimal
 use Rattle.decimals.proofs.read_cell as decimals·read-cell
 use Rattle.resample.proofs.freq_step as resample·freq-step
@@ -70,8 +75,12 @@ use Rattle.distances.proofs.corr_to_distances as distances·corr-to-distances
 use Rattle.distances.proofs.distance_of_distances as distances·distance-of-distances
 use Rattle.tree.proofs.is_tree as tree·is-tree
 use Rattle.tree.proofs.is_order as tree·is-order
+use Rattle.tree.proofs.is_above as tree·is-above
 use Rattle.tree.proofs.quasi_diagonalization as tree·quasi-diagonalization
 use Rattle.tree.proofs.seriate_matrix as tree·seriate-matrix
+use Rattle.branches.proofs.summarize as branches·summarize
+use Rattle.branches.proofs.judge_members as branches·judge-members
+use Rattle.branches.proofs.members as branches·members
 use Rattle.pairing.proofs.is_far as pairing·is-far
 use Rattle.pairing.proofs.paired as pairing·paired
 use Rattle.pairing.proofs.offered as pairing·offered
@@ -124,8 +133,12 @@ use Rattle.hrp.proofs.allocate as hrp·allocate
 use Rattle.hcaa.proofs.allocate as hcaa·allocate
 use Rattle.listing.proofs.bytes as listing·bytes
 use Rattle.listing.proofs.sheet as listing·sheet
+use Rattle.listing.proofs.all_short as listing·all-short
 use Rattle.listing.proofs.refusal_line as listing·refusal-line
+use Rattle.groups.proofs.least_sheet as groups·least-sheet
+use Rattle.groups.proofs.group_sheet as groups·group-sheet
 use Rattle.job.proofs.text_to_listing as job·text-to-listing
+use Rattle.job.proofs.text_to_sheet as job·text-to-sheet
 use Rattle.fractions.proofs.rank_fractions as fractions·rank-fractions
 use Rattle.millionths.proofs.weights_in_millionths as millionths·weights-in-millionths
 use Rattle.foreign.proofs.number as foreign·number
@@ -145,6 +158,7 @@ use Rattle.capi.proofs.rovignesc_covariance as capi·rovignesc-covariance
 use Rattle.capi.proofs.rovignesc_linkage_children as capi·rovignesc-linkage-children
 use Rattle.capi.proofs.rovignesc_quasi_diagonalization as capi·rovignesc-quasi-diagonalization
 use Rattle.capi.proofs.rovignesc_listing as capi·rovignesc-listing
+use Rattle.capi.proofs.rovignesc_sheet as capi·rovignesc-sheet
 use Rattle.capi.proofs.rovignesc_refusal_line as capi·rovignesc-refusal-line
 
 -- ---- the law: what is the same as a third is the same
@@ -350,6 +364,23 @@ fields-read-bits κs a r r′ e e′ p q = (sole p q, refl)
 pub fields-read-numeral : Sole fields·read-numeral.ended fields·read-numeral.Reads.Post
 fields-read-numeral κs a r r′ e e′ p q = (sole p q, refl)
 
+-- ---- writing: bytes and numerals into a lent buffer
+
+pub writing-put-bytes : Sole writing·put-bytes.ended writing·put-bytes.Reads.Post
+writing-put-bytes κs a r r′ e e′ p q = (sole (p .moved) (q .moved), λ i. (sole (p .bytes) (q .bytes) i, (tt, (tt, tt))))
+
+pub writing-put-byte : Sole writing·put-byte.ended writing·put-byte.Reads.Post
+writing-put-byte κs a r r′ e e′ p q = (sole (p .moved) (q .moved), λ i. (sole (p .bytes) (q .bytes) i, (tt, (tt, tt))))
+
+pub writing-put-hex : Sole writing·put-hex.ended writing·put-hex.Reads.Post
+writing-put-hex κs a r r′ e e′ p q = (sole (p .moved) (q .moved), λ i. (sole (p .bytes) (q .bytes) i, (tt, (tt, tt))))
+
+pub writing-places : Sole writing·places.ended writing·places.Reads.Post
+writing-places κs a r r′ e e′ p q = (sole p q, refl)
+
+pub writing-put-decimal : Sole writing·put-decimal.ended writing·put-decimal.Reads.Post
+writing-put-decimal κs a r r′ e e′ p q = (sole (p .moved) (q .moved), λ i. (sole (p .bytes) (q .bytes) i, (tt, (tt, tt))))
+
 -- ---- decimals: cells, as decimals or as bits
 
 pub decimals-read-decimal : Sole decimals·read-decimal.ended decimals·read-decimal.Reads.Post
@@ -402,11 +433,37 @@ tree-is-tree κs a r r′ e e′ p q = (sole p q, refl)
 pub tree-is-order : Sole tree·is-order.ended tree·is-order.Reads.Post
 tree-is-order κs a r r′ e e′ p q = (sole p q, refl)
 
+pub tree-is-above : Sole tree·is-above.ended tree·is-above.Reads.Post
+tree-is-above κs a r r′ e e′ p q = (sole p q, refl)
+
 pub tree-quasi-diagonalization : Sole tree·quasi-diagonalization.ended tree·quasi-diagonalization.Reads.Post
 tree-quasi-diagonalization κs a r r′ e e′ p q = (sole (p .0) (q .0), λ i. (tt, (tt, (tt, (sole (p .1) (q .1) i, tt)))))
 
 pub tree-seriate-matrix : Sole tree·seriate-matrix.ended tree·seriate-matrix.Reads.Post
 tree-seriate-matrix κs a r r′ e e′ p q = (sole (p .0) (q .0), λ i. (tt, (tt, (tt, (tt, (sole (p .1) (q .1) i, tt))))))
+
+-- ---- branches: the summary of a tree, and a node's members; of a part, its entries
+
+pub branches-summarize : Sole branches·summarize.ended branches·summarize.Reads.Post
+branches-summarize κs a r r′ e e′ p q = (
+  sole (p .0) (q .0),
+  λ i. (
+    tt,
+    (
+      tt,
+      (
+        sole (rw (p .0) at (p .1 .0)) (rw (q .0) at (q .1 .0)) i,
+        (sole (rw (p .0) at (p .1 .1 .0)) (rw (q .0) at (q .1 .1 .0)) i, (sole (rw (p .0) at (p .1 .1 .1)) (rw (q .0) at (q .1 .1 .1)) i, tt)),
+      ),
+    ),
+  ),
+)
+
+pub branches-judge-members : Sole branches·judge-members.ended branches·judge-members.Reads.Post
+branches-judge-members κs a r r′ e e′ p q = (sole p q, refl)
+
+pub branches-members : SoleOf branches·members.ended branches·members.Reads.Post (λ κs r. now r)
+branches-members κs a r r′ e e′ p q = (sole p q, refl)
 
 -- ---- pairing: the best pair of a scan
 
@@ -613,10 +670,24 @@ listing-sheet κs a r r′ e e′ p q = (sole (p .answer) (q .answer), λ i. (tt
 pub listing-refusal-line : Sole listing·refusal-line.ended listing·refusal-line.Reads.Post
 listing-refusal-line κs a r r′ e e′ p q = (sole (p .answer) (q .answer), λ i. (tt, (sole (p .bytes-are) (q .bytes-are) i, tt)))
 
--- ---- job: a text to its listing
+pub listing-all-short : Sole listing·all-short.ended listing·all-short.Reads.Post
+listing-all-short κs a r r′ e e′ p q = (sole p q, refl)
+
+-- ---- groups: the sheet of a tree
+
+pub groups-least-sheet : Sole groups·least-sheet.ended groups·least-sheet.Reads.Post
+groups-least-sheet κs a r r′ e e′ p q = (sole p q, refl)
+
+pub groups-group-sheet : Sole groups·group-sheet.ended groups·group-sheet.Reads.Post
+groups-group-sheet κs a r r′ e e′ p q = (sole (p .answer) (q .answer), λ i. (tt, (tt, (tt, (tt, (tt, (sole (p .bytes-are) (q .bytes-are) i, tt)))))))
+
+-- ---- job: a text to its listing or its sheet
 
 pub job-text-to-listing : Sole job·text-to-listing.ended job·text-to-listing.Reads.Post
 job-text-to-listing κs a r r′ e e′ p q = (sole (p .made .answer) (q .made .answer), λ i. (tt, (sole (p .made .bytes-are) (q .made .bytes-are) i, tt)))
+
+pub job-text-to-sheet : Sole job·text-to-sheet.ended job·text-to-sheet.Reads.Post
+job-text-to-sheet κs a r r′ e e′ p q = (sole (p .made .answer) (q .made .answer), λ i. (tt, (tt, (sole (p .made .bytes-are) (q .made .bytes-are) i, tt))))
 
 -- ---- foreign: what a call from C hands in
 
@@ -673,6 +744,9 @@ capi-rovignesc-quasi-diagonalization κs a r r′ e e′ p q = (sole (p .answer)
 
 pub capi-rovignesc-listing : Sole capi·rovignesc-listing.ended capi·rovignesc-listing.Reads.Post
 capi-rovignesc-listing κs a r r′ e e′ p q = (sole (p .answer) (q .answer), λ i. (tt, (sole (p .listing-is) (q .listing-is) i, (sole (p .bytes-are) (q .bytes-are) i, tt))))
+
+pub capi-rovignesc-sheet : Sole capi·rovignesc-sheet.ended capi·rovignesc-sheet.Reads.Post
+capi-rovignesc-sheet κs a r r′ e e′ p q = (sole (p .answer) (q .answer), λ i. (tt, (tt, (sole (p .sheet-is) (q .sheet-is) i, (sole (p .bytes-are) (q .bytes-are) i, tt)))))
 
 pub capi-rovignesc-refusal-line : Sole capi·rovignesc-refusal-line.ended capi·rovignesc-refusal-line.Reads.Post
 capi-rovignesc-refusal-line κs a r r′ e e′ p q = (sole (p .answer) (q .answer), λ i. (tt, (sole (p .line-is) (q .line-is) i, (sole (p .bytes-are) (q .bytes-are) i, tt))))
