@@ -1,15 +1,18 @@
 #!/usr/bin/env python3
-"""Makes the listings that the program `sheets` must print, from document 01's words (and document 02's requests 1, 3 and 8) alone.
+"""Makes the listings and sheets that the program `sheets` must print, from document 01's words (and document 02's requests 1, 3, 8 and 13) alone.
 
     oracle/sheets.py            reads crates/sheets/stdin and writes crates/sheets/stdout
     oracle/sheets.py --check    writes nothing: ends with status 1 where crates/sheets/stdout is not what it makes
     oracle/sheets.py --job      reads one job text from standard input and prints what `weights` must print for it
+    oracle/sheets.py --sheet    the same for `sheet`
+    oracle/sheets.py --names    the same for `named_sheet`
 
 It needs Python 3.9 or newer and nothing else. The texts, parted by a byte 0, stand in crates/sheets/stdin alone.
 
 Sums, products and quotients are Python's doubles, which round once to nearest even; math.sqrt is correctly rounded. Nothing is taken from the Rust's
-code but what the documents hand over to it (`Linkage::update`, the names, the two tail-risk measures), and nothing from the crates. A listing is followed by
-a line `-- 0`: `sheets` says there how many bytes past the listing its call left that are not zero."""
+code but what the documents hand over to it (`Linkage::update`, the names, the two tail-risk measures), and nothing from the crates. Of each text there are
+three blocks: its listing, its sheet, its sheet with names; a refused text has the line of its refusal in each. A block is followed by a line `-- 0`: `sheets`
+says there how many bytes past it the call left that are not zero."""
 import math
 import os
 import re
@@ -327,15 +330,15 @@ def hcaa(n, priced, cells, metric, linkage, by, clusters):
     if not 1 <= clusters <= n:
         raise Refused(6)
     rows, order = tree(cov, hcaa_distance, by, linkage)
-    return share(cov, returns, metric, rows, clusters), order
+    return share(cov, returns, metric, rows, clusters), rows, order
 
 
 def hrp(n, priced, cells, by):
     if n == 0:
         raise Refused(1)
     cov = covariance(returns_of(cells)) if priced else cells
-    _, order = tree(cov, hrp_distance, by, "single")
-    return bisect(cov, order), order
+    rows, order = tree(cov, hrp_distance, by, "single")
+    return bisect(cov, order), rows, order
 
 
 # ---- job texts
@@ -406,7 +409,8 @@ def millionths(weights):
     return whole
 
 
-def listing(text):
+def allocated(text):
+    """The names, weights, millionths, merge rows and leaf order of a text's job."""
     first, names, priced, cells = read(text)
     linkage = first[2].lower().decode("latin-1") if first[0] == b"hcaa" else "single"
     by = first[3 if first[0] == b"hcaa" else 1].lower().decode("latin-1")
@@ -418,33 +422,72 @@ def listing(text):
     if len(names) > 64 or len(cells) * len(names) > 4096:
         raise Refused(9)
     if first[0] == b"hrp":
-        weights, order = hrp(len(names), priced, cells, by)
+        weights, rows, order = hrp(len(names), priced, cells, by)
     else:
-        weights, order = hcaa(len(names), priced, cells, first[1].decode("latin-1"), linkage, by, None if first[4] == b"-" else int(first[4]))
-    lines = [b"\t".join((name, bits(w).encode(), b"%d" % m)) for name, w, m in zip(names, weights, millionths(weights))]
+        weights, rows, order = hcaa(len(names), priced, cells, first[1].decode("latin-1"), linkage, by, None if first[4] == b"-" else int(first[4]))
+    return names, weights, millionths(weights), rows, order
+
+
+# ---- what is printed
+
+def listing(names, weights, parts, rows, order):
+    lines = [b"\t".join((name, bits(w).encode(), b"%d" % m)) for name, w, m in zip(names, weights, parts)]
     return b"".join(line + b"\n" for line in lines) + b"\t".join([b"order"] + [names[i] for i in order]) + b"\n"
 
 
-def printed(text):
+def branches(rows, n, node, depth):
+    """Request 13: "a line per node from the root down, left first". Of the node and of every node below it: the node, "the nodes above it", and its leaves."""
+    found = [(node, depth, leaves(rows, n, node))]
+    for child in rows[node - n] if node >= n else ():
+        found += branches(rows, n, child, depth + 1)
+    return found
+
+
+def line(parts, depth, under):
+    """"depth, size, subtotal of the listing's millionths, tabs between"."""
+    return b"%d\t%d\t%d" % (depth, len(under), sum(parts[i] for i in under))
+
+
+def sheet(names, weights, parts, rows, order):
+    n = len(names)
+    return b"".join(line(parts, depth, under) + b"\n" for _, depth, under in branches(rows, n, 2 * n - 2, 0))
+
+
+def named_sheet(names, weights, parts, rows, order):
+    """The same lines, for a person: each two blanks further in for each node above it, and at the end of a leaf's a tab and the asset's name."""
+    n = len(names)
+    lines = []
+    for node, depth, under in branches(rows, n, 2 * n - 2, 0):
+        lines.append(b"  " * depth + line(parts, depth, under) + (b"\t" + names[node] if node < n else b"") + b"\n")
+    return b"".join(lines)
+
+
+def printed(text, *forms):
+    """A text in each of these forms, or the line of its refusal as often."""
     try:
-        return listing(text)
+        answer = allocated(text)
     except Refused as refusal:
-        return b"refused\t%d\n" % refusal.args[0]
+        return [b"refused\t%d\n" % refusal.args[0]] * len(forms)
+    return [form(*answer) for form in forms]
 
 
 def sheets(texts):
-    return b"".join(printed(text) + b"-- 0\n" for text in texts)
+    return b"".join(block + b"-- 0\n" for text in texts for block in printed(text, listing, sheet, named_sheet))
 
 
 if __name__ == "__main__":
     sys.setrecursionlimit(10000)
     folder = os.path.join(os.path.dirname(os.path.abspath(__file__)), "..", "crates", "sheets")
-    if sys.argv[1:] == ["--job"]:
-        sys.stdout.buffer.write(printed(sys.stdin.buffer.read()))
+    asked = sys.argv[1:]
+    forms = {"--job": listing, "--sheet": sheet, "--names": named_sheet}
+    if len(asked) == 1 and asked[0] in forms:
+        sys.stdout.buffer.writelines(printed(sys.stdin.buffer.read(), forms[asked[0]]))
         sys.exit()
+    if asked not in ([], ["--check"]):
+        sys.exit("usage: oracle/sheets.py [--check | --job | --sheet | --names]")
     with open(os.path.join(folder, "stdin"), "rb") as file:
         made = sheets(file.read().split(b"\0"))
-    if sys.argv[1:] == ["--check"]:
+    if asked == ["--check"]:
         with open(os.path.join(folder, "stdout"), "rb") as file:
             sys.exit(0 if file.read() == made else "oracle/sheets.py: crates/sheets/stdout is not what it makes")
     with open(os.path.join(folder, "stdout"), "wb") as file:

@@ -1,38 +1,45 @@
-// Runs many job texts. They stand in standard input, parted by a byte 0; each listing, or the line of its refusal, is written with a line `--` after it,
-// on which stands how many bytes past the listing the call left that are not zero: of all of them after a refusal.
-// oracle/sheets.py makes the listings from document 01's words.
+// Runs many job texts. They stand in standard input, parted by a byte 0. Of each its listing, its sheet and its sheet with names are written, or the line of its
+// refusal in the place of each, and after each a line `--`, on which stands how many bytes past it the call left that are not zero: of all of them after a refusal.
+// oracle/sheets.py makes all three from the documents' words.
 use channel::Input;
 use listing::Listed;
 
-// The first k bytes, and the line after them. Answers whether all was taken.
-fn write(out: &[u8], k: usize) -> bool {
+// What a call made of a text, and the line after it. Answers whether all was taken.
+fn write(listed: Listed, out: &[u8]) -> bool {
     let mut digits = [0u8; 20];
-    let left = recorded::unclean_bytes(recorded::byte_part(out, k, out.len()));
-    let d = io::decimal(left as u64, &mut digits);
-    channel::write(recorded::byte_part(out, 0, k))
+    let rest = recorded::byte_part(out, listing::bytes(listed), out.len());
+    let d = io::decimal(recorded::unclean_bytes(rest) as u64, &mut digits);
+    printing::write_listed(listed, out)
         && channel::write(b"-- ")
         && channel::write(&digits[..d])
         && channel::write(b"\n")
 }
 
-// The line of a refusal; nothing where there is none.
-fn write_refusal(listed: Listed) -> bool {
-    let Listed::Refused(given) = listed else {
-        return true;
-    };
-    let mut line = [0u8; 16];
-    let written = listing::refusal_line(refusal::number(given), &mut line);
-    channel::write(recorded::byte_part(&line, 0, listing::bytes(written)))
-}
-
-// One text, in a buffer full of junk.
-fn run(text: &[u8]) -> bool {
+// Each call has a buffer full of junk, of just the length that it needs.
+fn run_listing(text: &[u8]) -> bool {
     let mut out = [7u8; 8192];
     let listed = job::text_to_listing(text, &mut out);
-    write_refusal(listed) && write(&out, listing::bytes(listed))
+    write(listed, &out)
 }
 
-// Every text, as long as its listing is taken.
+fn run_sheet(text: &[u8]) -> bool {
+    let mut out = [7u8; 8192];
+    let listed = job::text_to_sheet(text, false, &mut out);
+    write(listed, &out)
+}
+
+fn run_named_sheet(text: &[u8]) -> bool {
+    let mut out = [7u8; 32768];
+    let listed = job::text_to_sheet(text, true, &mut out);
+    write(listed, &out)
+}
+
+// One text, in its three forms.
+fn run(text: &[u8]) -> bool {
+    run_listing(text) && run_sheet(text) && run_named_sheet(text)
+}
+
+// Every text, as long as what is written is taken.
 fn run_all(text: &[u8]) {
     let mut at = 0;
     loop {

@@ -1,7 +1,5 @@
 -- `weights::main` is safe, and ends. Assumes nothing.
-use mathlib.Core.Path.{sym}
 use native.Mathlib.Omega.{arith}
-use lib.Seq.{length-take-le}
 use Rattle.channel.proofs.Laws.{read-text}
 use borrow.Author.Needs.{needs}
 use Rattle.weights.proofs.main.Statement.{statement}
@@ -34,20 +32,11 @@ slice-aggregate-text-to-listing-2 c = search needs
 text-to-listing-requires : tie.Need-text-to-listing-requires
 text-to-listing-requires c κs = search needs
 
-write-refusal-requires : tie.Need-write-refusal-requires
-write-refusal-requires c κs = search needs
+slice-aggregate-write-listed : tie.Need-slice-aggregate-write-listed
+slice-aggregate-write-listed c = search needs
 
-bytes-requires : tie.Need-bytes-requires
-bytes-requires c κs = search needs
-
-array-share-prefix-out : tie.Need-array-share-prefix-out
-array-share-prefix-out c = search needs
-
-slice-aggregate-write : tie.Need-slice-aggregate-write
-slice-aggregate-write c = sym (length-take-le _ _ (omega (arith, c .before .bytes .ensures, c .before .before .before .before .text-to-listing .ensures .made .within)))
-
-write-requires : tie.Need-write-requires
-write-requires c κs = search needs
+write-listed-requires : tie.Need-write-listed-requires
+write-listed-requires c κs = search needs
 
 returns-2 : tie.Need-returns-2
 returns-2 c = search needs
@@ -65,9 +54,6 @@ main-spec =
     slice-aggregate-text-to-listing
     slice-aggregate-text-to-listing-2
     text-to-listing-requires
-    write-refusal-requires
-    bytes-requires
-    array-share-prefix-out
-    slice-aggregate-write
-    write-requires
+    slice-aggregate-write-listed
+    write-listed-requires
     returns-2)
