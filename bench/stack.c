@@ -40,7 +40,7 @@ struct account {
     uint8_t text[TEXT];
 };
 static struct account none, few = {.assets = FEW, .linkage = "ward"}, many = {.assets = MOST, .linkage = "ward"},
-                      chain = {.assets = MOST, .linkage = "single"}, sheet = {.assets = LISTED}, sample,
+                      chain = {.assets = MOST, .linkage = "single"}, sheet = {.assets = LISTED}, strung = {.assets = LISTED}, sample,
                       hrp_days = {.assets = LISTED}, hcaa_days = {.assets = LISTED}, tail_days = {.assets = LISTED};
 
 enum form { COVARIANCE, SKEWED, RETURNS, BOTH, PRICES, PRICES_SHRUNK };
@@ -63,7 +63,7 @@ struct kind {
 /* What the library writes to. */
 static size_t rows[2 * (MOST - 1)], order[MOST], asked[2], pairs[1], listed[1];
 static double weights[MOST], correlations[MOST * MOST], distances[MOST * MOST], scratch[8192];
-static uint8_t listing[8192];
+static uint8_t printed[32768];          /* a listing, or a sheet */
 
 static const uint8_t *bytes(const char *name) { return (const uint8_t *)name; }
 static int has_covariance(enum form f) { return f == COVARIANCE || f == SKEWED || f == BOTH; }
@@ -107,7 +107,9 @@ static uint8_t call_merge(const struct job *j)
     return rovignesc_linkage_children(distances_of(j), n * n, n, n, bytes(a->linkage), strlen(a->linkage), rows, 2 * (n - 1), pairs, 1);
 }
 
-static uint8_t call_listing(const struct job *j) { return rovignesc_listing(j->account->text, j->account->length, listing, 8192, listed, 1); }
+static uint8_t call_listing(const struct job *j) { return rovignesc_listing(j->account->text, j->account->length, printed, 8192, listed, 1); }
+static uint8_t call_sheet(const struct job *j) { return rovignesc_sheet(j->account->text, j->account->length, 0, printed, 8192, listed, 1); }
+static uint8_t call_named(const struct job *j) { return rovignesc_sheet(j->account->text, j->account->length, 1, printed, 32768, listed, 1); }
 static uint8_t call_nothing(const struct job *j) { (void)j; return 0; }
 
 /* A weight that is not finite leaves a total that is not. */
@@ -124,7 +126,7 @@ static int is_merged(const struct job *j)
     return pairs[0] == (n * n * n - n) / 6;
 }
 
-static int is_listed(const struct job *j) { (void)j; return 0 < listed[0] && listing[listed[0] - 1] == '\n'; }
+static int is_listed(const struct job *j) { (void)j; return 0 < listed[0] && printed[listed[0] - 1] == '\n'; }
 static int is_nothing(const struct job *j) { (void)j; return 1; }
 
 /* Nothing of an earlier answer may pass for this one's. */
@@ -135,7 +137,8 @@ static void spoil(void)
 }
 
 static const struct kind empty = {call_nothing, is_nothing}, hrp = {call_hrp, is_shared}, hcaa = {call_hcaa, is_shared},
-                         merge = {call_merge, is_merged}, list = {call_listing, is_listed};
+                         merge = {call_merge, is_merged}, list = {call_listing, is_listed},
+                         group = {call_sheet, is_listed}, group_named = {call_named, is_listed};
 
 #define BETWEEN "distance_of_distances"
 #define ALIKE "correlation"
@@ -173,6 +176,12 @@ static const struct job jobs[] = {
     {"listing_hrp_prices", &list, &hrp_days, PRICES, "", "", 0},
     {"listing_hcaa_prices", &list, &hcaa_days, PRICES, "", "", 0},
     {"listing_shortfall_prices", &list, &tail_days, PRICES, "", "", 0},
+    {"sheet_hcaa", &group, &sample, COVARIANCE, "", "", 0},
+    {"sheet_hrp", &group, &sheet, COVARIANCE, "", "", 0},
+    {"sheet_names_hcaa", &group_named, &sample, COVARIANCE, "", "", 0},
+    {"listing_hcaa_chain", &list, &strung, COVARIANCE, "", "", 0},
+    {"sheet_hcaa_chain", &group, &strung, COVARIANCE, "", "", 0},
+    {"sheet_names_hcaa_chain", &group_named, &strung, COVARIANCE, "", "", 0},
 };
 
 /* A place's word is its own, so that no callee happens to write it there. */
@@ -276,12 +285,12 @@ static void string_out(struct account *a)
         for (size_t j = 0; j <= i; j++) a->covariance[i * n + j] = a->covariance[j * n + i] = i == j ? 1 : 1 - (double)i / n;
 }
 
-/* The job text of an account's covariance, by HRP. */
-static void write_text(struct account *a)
+/* The job text of an account's covariance, in hex, after this first line. */
+static void write_text(struct account *a, const char *first)
 {
     size_t n = a->assets;
     char *at = (char *)a->text;
-    at += sprintf(at, "hrp\t%s\n", BETWEEN);
+    at += sprintf(at, "%s\n", first);
     for (size_t i = 0; i < n; i++) {
         *at++ = (char)('0' + i);
         for (size_t j = 0; j < n; j++) {
@@ -325,7 +334,9 @@ int main(int count, char **words)
     if (stack == MAP_FAILED || count != 2 || !read_text(&sample, words[1])) return 2;
     if (!fill(&few) || !fill(&many) || !fill(&chain) || !fill(&sheet) || !fill(&hrp_days) || !fill(&hcaa_days) || !fill(&tail_days)) return 2;
     string_out(&chain);
-    write_text(&sheet);
+    string_out(&strung);
+    write_text(&sheet, "hrp\t" BETWEEN);
+    write_text(&strung, "hcaa\t" VARIANCE "\tsingle\t" ALIKE "\t-");
     write_days(&hrp_days, "hrp\t" BETWEEN);
     write_days(&hcaa_days, "hcaa\t" VARIANCE "\tward\t" ALIKE "\t-");
     write_days(&tail_days, "hcaa\t" SHORTFALL "\tward\t" ALIKE "\t-");

@@ -1,10 +1,11 @@
-//! Job texts to listings.
+//! Job texts to listings, and to sheets without names and with them.
 use crate::buffers::{number, Verdict};
 use crate::case::{weight_of_rooms, Case, Desk, Judged};
-use crate::ours::{rovignesc_listing, rovignesc_refusal_line};
+use crate::ours::{rovignesc_listing, rovignesc_refusal_line, rovignesc_sheet};
 use crate::random::Random;
-use crate::sheet::{self, LISTING_ROOM};
+use crate::sheet::{self, Form, Printed, FORMS};
 use crate::texts;
+use openquant::api::Refused;
 
 /// What texts are called whose first line ends in `prices`.
 pub const PRICED: &str = "listing of prices";
@@ -12,8 +13,22 @@ pub const PRICED: &str = "listing of prices";
 #[derive(Clone)]
 pub struct Listing {
     text: Vec<u8>,
-    /// Of the listing, and of the count.
-    rooms: [usize; 2],
+    /// Of each form, and of its count.
+    rooms: [[usize; 2]; FORMS.len()],
+    /// What asks for names: anything but 0.
+    named: u8,
+}
+
+/// Just what is needed.
+const EXACT: [[usize; 2]; FORMS.len()] = [[FORMS[0].room(), 1], [FORMS[1].room(), 1], [FORMS[2].room(), 1]];
+
+/// Seldom too little.
+fn rooms(rng: &mut Random, form: Form) -> [usize; 2] {
+    let need = form.room();
+    match rng.below(60) {
+        0 => rng.pick(&[[need - 1, 1], [0, 1], [10, 1], [need, 0], [0, 0]]),
+        _ => [need + rng.pick(&[0, 0, 1, 9, 500]), 1 + rng.below(3)],
+    }
 }
 
 /// The line of a number, in a buffer that is long enough, just enough, or one too short: then 11, and zeros.
@@ -37,6 +52,37 @@ impl Listing {
     fn is_priced(&self) -> bool {
         self.text.split(|&b| b == b'\n').next().is_some_and(|line| line.ends_with(b"\tprices"))
     }
+
+    /// The call for a form, in the desk's buffers.
+    fn call(&self, form: Form, desk: &mut Desk) -> u8 {
+        let (text, bytes) = (desk.bytes[0].at(), desk.bytes[0].len());
+        let (out, room) = (desk.listing.at(), desk.listing.len());
+        let (count, counts) = (desk.count.at(), desk.count.len());
+        // The slices are the desk's own, and none of them overlaps another.
+        unsafe {
+            match form {
+                Form::Listing => rovignesc_listing(text, bytes, out, room, count, counts),
+                Form::Sheet => rovignesc_sheet(text, bytes, 0, out, room, count, counts),
+                Form::NamedSheet => rovignesc_sheet(text, bytes, self.named, out, room, count, counts),
+            }
+        }
+    }
+
+    /// A form as our library prints it, into junk, held to what is due.
+    fn held(&self, form: Form, theirs: &Result<Printed, Refused>, desk: &mut Desk, junk: &mut Random) -> Verdict {
+        let rooms = self.rooms[form as usize];
+        let due = sheet::due(&self.text, form, rooms, theirs);
+        let written = due.unwrap_or_default();
+        let count = Some(written.len()).filter(|&len| len > 0);
+        desk.bytes[0].set(&self.text);
+        desk.listing.dirty(rooms[0], junk);
+        desk.count.dirty(rooms[1], junk);
+        number(self.call(form, desk), due.err().unwrap_or(0))
+            .and_then(|()| desk.listing.holds("what is printed", written))
+            .and_then(|()| desk.count.holds("bytes", count.as_slice()))
+            .and_then(|()| desk.bytes[0].unchanged("text", &self.text))
+            .map_err(|why| format!("{}: {why}", form.name()))
+    }
 }
 
 impl Case for Listing {
@@ -52,57 +98,35 @@ impl Case for Listing {
 
     fn make(rng: &mut Random) -> Self {
         let text = texts::text(rng);
-        let rooms = match rng.below(60) {
-            0 => rng.pick(&[[LISTING_ROOM - 1, 1], [0, 1], [10, 1], [LISTING_ROOM, 0], [0, 0]]),
-            _ => [LISTING_ROOM + rng.pick(&[0, 0, 1, 9, 500]), 1 + rng.below(3)],
-        };
-        Self { text, rooms }
+        let rooms = FORMS.map(|form| rooms(rng, form));
+        Self { text, rooms, named: rng.pick(&[1, 1, 1, 2, 128, 255]) }
     }
 
     fn judge(&self, desk: &mut Desk, junk: &mut Random) -> Judged {
-        let theirs = sheet::listing(&self.text, self.rooms[0], self.rooms[1]);
-        let due = theirs.answer.as_ref().err().map_or(0, |refused| refused.number);
-        let listing = theirs.answer.unwrap_or_default();
-        desk.bytes[0].set(&self.text);
-        desk.listing.dirty(self.rooms[0], junk);
-        desk.count.dirty(self.rooms[1], junk);
-        // The slices are the desk's own, and none of them overlaps another.
-        let ours = unsafe {
-            rovignesc_listing(
-                desk.bytes[0].at(),
-                desk.bytes[0].len(),
-                desk.listing.at(),
-                desk.listing.len(),
-                desk.count.at(),
-                desk.count.len(),
-            )
-        };
-        let count = Some(listing.len()).filter(|&len| len > 0);
-        let verdict = number(ours, due)
-            .and_then(|()| desk.listing.holds("listing", &listing))
-            .and_then(|()| desk.count.holds("bytes", count.as_slice()))
-            .and_then(|()| desk.bytes[0].unchanged("text", &self.text))
-            .and_then(|()| line_of(due, desk, junk));
-        Judged::beside(due, theirs.beside, verdict)
+        let theirs = sheet::printed(&self.text);
+        let due = sheet::due(&self.text, Form::Listing, self.rooms[0], &theirs.answer).err().unwrap_or(0);
+        let held = FORMS.iter().try_for_each(|&form| self.held(form, &theirs.answer, desk, junk));
+        Judged::beside(due, theirs.beside, held.and_then(|()| line_of(due, desk, junk)))
     }
 
     fn size(&self) -> usize {
-        self.text.len() + weight_of_rooms(&self.rooms, &[LISTING_ROOM, 1])
+        self.text.len() + weight_of_rooms(&self.rooms.concat(), &EXACT.concat())
     }
 
     fn show(&self) -> String {
         let hex: String = self.text.iter().map(|b| format!("{b:02x}")).collect();
         format!(
-            "text: {} bytes, \"{}\"\nin hex: {hex}\nrooms of listing, bytes: {:?}\n",
+            "text: {} bytes, \"{}\"\nin hex: {hex}\nrooms of listing, sheet, sheet with names, each with that of its bytes: {:?}\nflag of names: {}\n",
             self.text.len(),
             self.text.escape_ascii(),
-            self.rooms
+            self.rooms,
+            self.named
         )
     }
 
     /// A line less, an asset less, a byte less.
     fn smaller(&self) -> Vec<Self> {
-        let mut out = vec![Self { rooms: [LISTING_ROOM, 1], ..self.clone() }];
+        let mut out = vec![Self { rooms: EXACT, ..self.clone() }];
         let lines: Vec<&[u8]> = self.text.split_inclusive(|&b| b == b'\n').collect();
         let narrow = |k: usize, field: usize| if k == 0 { lines[0].to_vec() } else { without(lines[k], field) };
         for gone in 1..lines.len().min(70) {

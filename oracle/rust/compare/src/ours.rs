@@ -126,6 +126,16 @@ extern "C" {
         bytes_len: usize,
     ) -> u8;
 
+    pub fn rovignesc_sheet(
+        text: *const u8,
+        text_len: usize,
+        named: u8,
+        sheet: *mut u8,
+        sheet_len: usize,
+        bytes: *mut usize,
+        bytes_len: usize,
+    ) -> u8;
+
     pub fn rovignesc_refusal_line(
         number: u8,
         line: *mut u8,

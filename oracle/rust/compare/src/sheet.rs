@@ -1,14 +1,42 @@
-//! The job text of documents 01 and 02 and its listing, read and written here from their words alone, and the source's allocators between.
+//! The job text of documents 01 and 02, its listing and its sheets, read and written here from their words alone, and the source's allocators between.
 use crate::rules::{self, Handed};
 use nalgebra::DMatrix;
-use openquant::api::{self, Account, Beside, Distance, Due, HcaaAccount, Linkage};
+use openquant::api::{self, Account, Beside, Distance, Due, HcaaAccount, Linkage, Refused};
 use std::cmp::Ordering;
 
 /// "Text of at most 65,536 bytes (else 9)".
 const MOST_BYTES: usize = 65_536;
 
-/// What holds every listing: 11 where there is less.
-pub const LISTING_ROOM: usize = 8192;
+/// What is printed of a job: its listing; document 02, request 13: its sheet; and the sheet for a person, indented and with names.
+#[derive(Clone, Copy)]
+pub enum Form {
+    Listing,
+    Sheet,
+    NamedSheet,
+}
+
+pub const FORMS: [Form; 3] = [Form::Listing, Form::Sheet, Form::NamedSheet];
+
+impl Form {
+    /// What holds all that is printed so: 11 where there is less.
+    pub const fn room(self) -> usize {
+        match self {
+            Form::Listing | Form::Sheet => 8192,
+            Form::NamedSheet => 32_768,
+        }
+    }
+
+    pub const fn name(self) -> &'static str {
+        match self {
+            Form::Listing => "listing",
+            Form::Sheet => "sheet",
+            Form::NamedSheet => "sheet with names",
+        }
+    }
+}
+
+/// A job in each form.
+pub struct Printed([Vec<u8>; FORMS.len()]);
 
 /// A job whose text is well formed; names of a linkage, a distance or a metric may yet be unknown.
 struct Job<'a> {
@@ -26,8 +54,9 @@ enum Plan<'a> {
 }
 
 struct Answer {
-    weights: Vec<f64>,
+    rows: Vec<usize>,
     order: Vec<usize>,
+    weights: Vec<f64>,
 }
 
 fn fields(line: &[u8]) -> Vec<&[u8]> {
@@ -162,7 +191,7 @@ impl Job<'_> {
             use_shrinkage: false,
             distance,
         };
-        api::hrp_allocate(&account).map(|a| Answer { weights: a.weights, order: a.order })
+        api::hrp_allocate(&account).map(|a| Answer { rows: a.rows, order: a.order, weights: a.weights })
     }
 
     /// "estimates by `mean` and uses the double nearest 0.05 as confidence". A covariance has no return rows: 4 by Sharpe, 16 by the tail-risk metrics.
@@ -182,7 +211,7 @@ impl Job<'_> {
             distance,
             linkage,
         });
-        Ok(Due { answer: due.answer.map(|a| Answer { weights: a.weights, order: a.order }), beside: due.beside })
+        Ok(Due { answer: due.answer.map(|a| Answer { rows: a.rows, order: a.order, weights: a.weights }), beside: due.beside })
     }
 
     /// "8, 7, the allocator's".
@@ -249,9 +278,8 @@ fn millionths(weights: &[f64]) -> Result<Vec<u32>, u8> {
 }
 
 /// "name, weight bits, millionths, then the leaf order".
-fn listed(job: &Job, answer: &Answer) -> Result<Vec<u8>, u8> {
-    let mut out = Vec::with_capacity(LISTING_ROOM);
-    let parts = millionths(&answer.weights)?;
+fn listing(job: &Job, answer: &Answer, parts: &[u32]) -> Vec<u8> {
+    let mut out = Vec::new();
     for (name, (weight, part)) in job.names.iter().zip(answer.weights.iter().zip(parts)) {
         out.extend_from_slice(name);
         out.extend_from_slice(format!("\t{:016x}\t{part}\n", weight.to_bits()).as_bytes());
@@ -262,7 +290,55 @@ fn listed(job: &Job, answer: &Answer) -> Result<Vec<u8>, u8> {
         out.extend_from_slice(job.names[asset]);
     }
     out.push(b'\n');
-    Ok(out)
+    out
+}
+
+/// A node's line: how many nodes are above it, its leaves, their millionths, and the name of an asset.
+#[derive(Clone, Copy)]
+struct Line<'a> {
+    depth: usize,
+    size: usize,
+    subtotal: u32,
+    name: Option<&'a [u8]>,
+}
+
+/// "a line per node from the root down, left first": the lines of a node and of those below it. "each branch's subtotal is the sum of its two children's".
+fn branch<'a>(names: &[&'a [u8]], rows: &[usize], parts: &[u32], node: usize, depth: usize) -> Vec<Line<'a>> {
+    let n = names.len();
+    if node < n {
+        return vec![Line { depth, size: 1, subtotal: parts[node], name: Some(names[node]) }];
+    }
+    let row = 2 * (node - n);
+    let [left, right] = [rows[row], rows[row + 1]].map(|child| branch(names, rows, parts, child, depth + 1));
+    let (size, subtotal) = (left[0].size + right[0].size, left[0].subtotal + right[0].subtotal);
+    [vec![Line { depth, size, subtotal, name: None }], left, right].concat()
+}
+
+/// "depth, size, subtotal of the listing's millionths, tabs between".
+fn sheet(lines: &[Line]) -> Vec<u8> {
+    lines.iter().flat_map(|line| format!("{}\t{}\t{}\n", line.depth, line.size, line.subtotal).into_bytes()).collect()
+}
+
+/// The same two spaces further in for each node above, and a leaf's line with a tab and the asset's name at its end.
+fn named_sheet(lines: &[Line]) -> Vec<u8> {
+    let mut out = Vec::new();
+    for &Line { depth, size, subtotal, name } in lines {
+        out.extend(vec![b' '; 2 * depth]);
+        out.extend_from_slice(format!("{depth}\t{size}\t{subtotal}").as_bytes());
+        if let Some(name) = name {
+            out.push(b'\t');
+            out.extend_from_slice(name);
+        }
+        out.push(b'\n');
+    }
+    out
+}
+
+/// 13 and 18 are the listing's, whatever is printed.
+fn forms(job: &Job, answer: &Answer) -> Result<Printed, Refused> {
+    let parts = millionths(&answer.weights)?;
+    let lines = branch(&job.names, &answer.rows, &parts, 2 * job.names.len() - 2, 0);
+    Ok(Printed([listing(job, answer, &parts), sheet(&lines), named_sheet(&lines)]))
 }
 
 /// "a refusal prints `refused`, tab, number"
@@ -270,35 +346,46 @@ pub fn refusal_line(number: u8) -> Vec<u8> {
     format!("refused\t{number}\n").into_bytes()
 }
 
-/// "Order: 9, 15, 8, 7, the allocator's, 13", and document 02's 18, with 11 after 9.
-fn due(text: &[u8], room: usize, count_room: usize) -> Result<Due<Vec<u8>>, u8> {
+/// "Order: 9, 15, 8, 7, the allocator's, 13", and document 02's 18.
+fn answered(text: &[u8]) -> Result<Due<Printed>, u8> {
     if text.len() > MOST_BYTES {
         return Err(9);
     }
-    if room < LISTING_ROOM || count_room < 1 {
-        return Err(11);
-    }
     let job = read(text).ok_or(15)?;
     let Due { answer, beside } = job.allocated()?;
-    Ok(Due { answer: answer.and_then(|answer| Ok(listed(&job, &answer)?)), beside })
+    Ok(Due { answer: answer.and_then(|answer| forms(&job, &answer)), beside })
 }
 
-/// The listing, or its refusal; and how the unchanged source's allocator answers beside the one that document 02 expects.
-pub fn listing(text: &[u8], room: usize, count_room: usize) -> Due<Vec<u8>> {
-    due(text, room, count_room).unwrap_or_else(|number| Due { answer: Err(number.into()), beside: Beside::Same })
+/// All that is printed of a text, or its refusal; and how the unchanged source's allocator answers beside the one that document 02 expects.
+pub fn printed(text: &[u8]) -> Due<Printed> {
+    answered(text).unwrap_or_else(|number| Due { answer: Err(number.into()), beside: Beside::Same })
+}
+
+/// What a call for one form is due, of what is printed of its text: 11 comes after the text's 9 and before the rest.
+pub fn due<'a>(text: &[u8], form: Form, rooms: [usize; 2], printed: &'a Result<Printed, Refused>) -> Result<&'a [u8], u8> {
+    if text.len() <= MOST_BYTES && (rooms[0] < form.room() || rooms[1] < 1) {
+        return Err(11);
+    }
+    printed.as_ref().map(|Printed(forms)| &forms[form as usize][..]).map_err(|refused| refused.number)
 }
 
 #[cfg(test)]
 mod tests {
-    use super::{cell, decimal, listing, millionths};
+    use super::{cell, decimal, due, millionths, printed, Form, FORMS};
     use crate::random::Random;
+
+    /// The number, or 0, and what is printed, in buffers of just the size that is needed.
+    fn said_as(form: Form, text: &str) -> (u8, String) {
+        let text = text.as_bytes();
+        match due(text, form, [form.room(), 1], &printed(text).answer) {
+            Ok(made) => (0, String::from_utf8(made.into()).unwrap()),
+            Err(number) => (number, String::new()),
+        }
+    }
 
     /// The number, or 0, and the listing.
     fn said(text: &str) -> (u8, String) {
-        match listing(text.as_bytes(), 8192, 1).answer {
-            Ok(listing) => (0, String::from_utf8(listing).unwrap()),
-            Err(refused) => (refused.number, String::new()),
-        }
+        said_as(Form::Listing, text)
     }
 
     fn number(text: &str) -> u8 {
@@ -306,14 +393,18 @@ mod tests {
     }
 
     /// Document 01's job, with other clusters.
-    fn worked(clusters: &str) -> (u8, String) {
-        said(&format!(
+    fn job(clusters: &str) -> String {
+        format!(
             "hcaa\tequal_weighting\tsingle\tcorrelation\t{clusters}
 A\t3ff0000000000000\t3fe0000000000000\t0000000000000000
 B\t3fe0000000000000\t3ff0000000000000\t0000000000000000
 C\t0000000000000000\t0000000000000000\t3ff0000000000000
 "
-        ))
+        )
+    }
+
+    fn worked(clusters: &str) -> (u8, String) {
+        said(&job(clusters))
     }
 
     #[test]
@@ -326,6 +417,39 @@ C\t0000000000000000\t0000000000000000\t3ff0000000000000
         assert_eq!(worked("0"), (6, String::new()));
         assert_eq!(worked("4"), (6, String::new()));
         assert_eq!(worked("0000000002"), (15, String::new()));
+    }
+
+    #[test]
+    fn its_sheets() {
+        let sheets = |text: &str| [said_as(Form::Sheet, text).1, said_as(Form::NamedSheet, text).1];
+        let [plain, named] = sheets(&job("-"));
+        assert_eq!(plain, "0\t3\t1000000\n1\t1\t500000\n1\t2\t500000\n2\t1\t250000\n2\t1\t250000\n");
+        assert_eq!(named, "0\t3\t1000000\n  1\t1\t500000\tC\n  1\t2\t500000\n    2\t1\t250000\tA\n    2\t1\t250000\tB\n");
+        // Of the listing's millionths, and below a cut too.
+        assert_eq!(sheets(&job("1"))[0], "0\t3\t1000000\n1\t1\t333333\n1\t2\t666667\n2\t1\t333334\n2\t1\t333333\n");
+        let one = "hrp\tcorrelation\nSIXTEEN-LETTERS-\t2.5\n";
+        assert_eq!(sheets(one), ["0\t1\t1000000\n", "0\t1\t1000000\tSIXTEEN-LETTERS-\n"]);
+    }
+
+    #[test]
+    fn refusals_of_every_form() {
+        let far = "7ff0000000000000";
+        let nans = format!("hrp\tcorrelation\nA\t1\t{far}\t0\t0\nB\t{far}\t1\t0\t0\nC\t0\t0\t1\t0\nD\t0\t0\t0\t1\n");
+        let tiny = "000730d67819e8d2";
+        let lost = format!("hcaa\tminimum_variance\tsingle\tcorrelation\t1\nA\t{tiny}\t0\nB\t0\t{tiny}\n");
+        let over = "\n".repeat(65_537);
+        let texts =
+            [(&over[..], 9), ("", 15), ("hcaa\tx\tx\tx\t-\n", 8), ("hrp\tx\n", 7), ("hrp\tcorrelation\n", 1), (&nans, 13), (&lost, 18)];
+        for form in FORMS {
+            for (text, number) in texts {
+                assert_eq!(said_as(form, text), (number, String::new()));
+            }
+            for (text, number) in [(&over[..], 9), ("", 11), (&nans, 11)] {
+                for rooms in [[form.room() - 1, 1], [form.room(), 0], [0, 0]] {
+                    assert_eq!(due(text.as_bytes(), form, rooms, &printed(text.as_bytes()).answer), Err(number));
+                }
+            }
+        }
     }
 
     #[test]

@@ -1,5 +1,5 @@
 //! Job texts: well formed, and damaged in every way.
-use crate::kinds::filled;
+use crate::kinds::{any_tree, filled};
 use crate::matrices;
 use crate::names;
 use crate::random::Random;
@@ -135,16 +135,65 @@ fn cell(rng: &mut Random, hand: Hand, x: f64) -> Vec<u8> {
     }
 }
 
-/// The lines of a job of so many assets by its covariance.
-fn by_covariance(rng: &mut Random, n: usize, hand: Hand) -> Vec<Line> {
-    let cells = matrices::a_covariance(rng, n);
-    let mut out = vec![first_line(rng, n, false)];
+/// Rows of any tree: any two nodes joined, one asset after the other put to those before it, or as even as can be.
+fn some_tree(rng: &mut Random, n: usize) -> Vec<usize> {
+    let mut assets: Vec<usize> = (0..n).collect();
+    (1..n).for_each(|i| assets.swap(i, rng.below(i + 1)));
+    match rng.below(3) {
+        0 => any_tree(rng, n),
+        1 => (1..n).flat_map(|k| [assets[k], if k == 1 { assets[0] } else { n + k - 2 }]).collect(),
+        _ => (0..2 * n.saturating_sub(1)).map(|k| assets.get(k).copied().unwrap_or(k)).collect(),
+    }
+}
+
+/// A covariance of variances 1 in which two assets have the less in common the later the row that joins them: by single linkage its tree is that of the rows.
+fn joined_by(rows: &[usize], n: usize) -> Vec<f64> {
+    let mut cells = vec![1.0; n * n];
+    let mut under: Vec<Vec<usize>> = (0..n).map(|asset| vec![asset]).collect();
+    for (k, row) in rows.chunks(2).enumerate() {
+        let [left, right] = [&under[row[0]], &under[row[1]]];
+        for (&i, &j) in left.iter().flat_map(|i| right.iter().map(move |j| (i, j))) {
+            cells[i * n + j] = (99 - k) as f64 / 100.0;
+            cells[j * n + i] = cells[i * n + j];
+        }
+        under.push([&left[..], right].concat());
+    }
+    cells
+}
+
+/// The lines of a job by a covariance, its first line given.
+fn with_rows(rng: &mut Random, first: Line, n: usize, cells: &[f64], hand: Hand) -> Vec<Line> {
+    let mut out = vec![first];
     for row in 0..n {
         let mut line = vec![name(rng)];
         line.extend(cells[row * n..(row + 1) * n].iter().map(|&x| cell(rng, hand, x)));
         out.push(line);
     }
     out
+}
+
+/// The lines of a job of so many assets by its covariance.
+fn by_covariance(rng: &mut Random, n: usize, hand: Hand) -> Vec<Line> {
+    let cells = matrices::a_covariance(rng, n);
+    let first = first_line(rng, n, false);
+    with_rows(rng, first, n, &cells, hand)
+}
+
+/// The lines of a job whose tree is any one of up to 64 assets; by Ward's linkage, or by distances of distances, it may be another.
+fn by_tree(rng: &mut Random) -> Vec<Line> {
+    let n = match rng.below(3) {
+        0 => 64,
+        1 => 1 + rng.below(64),
+        _ => 1 + rng.below(16),
+    };
+    let cells = joined_by(&some_tree(rng, n), n);
+    let first = if rng.below(3) == 0 {
+        first_line(rng, n, false)
+    } else {
+        let (metric, linkage) = (metric(rng, false), rng.pick(&["single", "complete", "average"]));
+        vec![b"hcaa".to_vec(), metric, linkage.into(), b"correlation".to_vec(), clusters(rng, n).into()]
+    };
+    with_rows(rng, first, n, &cells, Hand::Places(2))
 }
 
 /// Prices that go up and down from day to day, or of the kinds that accounts have.
@@ -532,6 +581,10 @@ pub fn text(rng: &mut Random) -> Vec<u8> {
         1..=3 => return large(rng),
         4..=8 => return noise(rng),
         9..=20 => return scraps(rng),
+        21..=32 => {
+            let lines = by_tree(rng);
+            return damaged(rng, lines);
+        }
         _ => {}
     }
     let (n, hand) = (assets(rng), hand(rng));
@@ -545,4 +598,26 @@ pub fn text(rng: &mut Random) -> Vec<u8> {
         damage_names(rng, &mut lines);
     }
     damaged(rng, lines)
+}
+
+#[cfg(test)]
+mod tests {
+    use super::{joined_by, some_tree};
+    use crate::random::Random;
+    use nalgebra::DMatrix;
+    use openquant::api::{corr_to_distances, linkage_children, Linkage, Measure};
+
+    /// The merge step finds the tree that a covariance was made of, the smaller id of a row first.
+    #[test]
+    fn any_tree_is_reached() {
+        let mut rng = Random::new(13);
+        for n in (1..=64).chain([64; 20]) {
+            let rows = some_tree(&mut rng, n);
+            let distances = corr_to_distances(Measure::Hcaa, &DMatrix::from_row_slice(n, n, &joined_by(&rows, n)));
+            let due: Vec<[usize; 2]> = rows.chunks(2).map(|row| [row[0].min(row[1]), row[0].max(row[1])]).collect();
+            for linkage in [Linkage::Single, Linkage::Complete, Linkage::Average] {
+                assert_eq!(linkage_children(&distances, linkage), due, "{n} {linkage:?}");
+            }
+        }
+    }
 }

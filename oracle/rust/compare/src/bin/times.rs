@@ -1,6 +1,8 @@
 //! Times our library and the Rust on the same matrices: a line `WHAT N OURS-ns RUST-ns RATIO` for each, medians of calls that take turns.
 use compare::kinds::{covariance, filled};
-use compare::ours::{rovignesc_covariance, rovignesc_hcaa, rovignesc_hrp, rovignesc_linkage_children, rovignesc_listing, rovignesc_sqrt};
+use compare::ours::{
+    rovignesc_covariance, rovignesc_hcaa, rovignesc_hrp, rovignesc_linkage_children, rovignesc_listing, rovignesc_sheet, rovignesc_sqrt,
+};
 use compare::random::Random;
 use nalgebra::DMatrix;
 use openquant::api::{self, Account, Distance, HcaaAccount, Linkage};
@@ -298,9 +300,13 @@ fn name(asset: usize) -> String {
     char::from(b'0' + asset as u8).to_string()
 }
 
+fn job_text(distance: &str, block: &str, last: &str) -> String {
+    format!("hcaa\tminimum_variance\tward\t{distance}\t-{last}\n{block}")
+}
+
 /// A job's text, and one that differs from it in a letter of its distance: that is refused, but only after every cell has been read.
 fn listing(what: &str, n: usize, block: &str, last: &str) {
-    let text = |distance: &str| format!("hcaa\tminimum_variance\tward\t{distance}\t-{last}\n{block}");
+    let text = |distance: &str| job_text(distance, block, last);
     let (mut out, mut bytes) = (vec![7u8; 8192], [7usize]);
     for (what, text, due) in [(what.to_owned(), text("correlation"), 0), (format!("{what}_read"), text("correlatiox"), 7)] {
         // Every slice is a vector of its own.
@@ -310,12 +316,26 @@ fn listing(what: &str, n: usize, block: &str, last: &str) {
     }
 }
 
-/// As many assets as a text in hex has room for: the same covariance in hex, in decimals of about as many bytes, and in shorter ones.
+/// The sheet of a job's text, without names and with them.
+fn sheet(n: usize, block: &str) {
+    let text = job_text("correlation", block, "");
+    for (what, named, room) in [("sheet", 0, 8192), ("sheet_names", 1, 32_768)] {
+        let (mut out, mut bytes) = (vec![7u8; room], [7usize]);
+        // Every slice is a vector of its own.
+        let mut ours = || unsafe { rovignesc_sheet(text.as_ptr(), text.len(), named, out.as_mut_ptr(), room, bytes.as_mut_ptr(), 1) };
+        assert_eq!(ours(), 0);
+        alone(what, n, || keep(ours()));
+    }
+}
+
+/// As many assets as a text in hex has room for: the same covariance in hex, in decimals of about as many bytes, and in shorter ones; and the sheet of the first.
 fn covariance_texts(rng: &mut Random) {
     let n = 62;
     let cells = covariance(rng, n);
     let front = |i| format!("{}\t", name(i));
-    listing("listing", n, &lines(cells.chunks(n), front, |x| format!("{:016x}", x.to_bits())), "");
+    let hex = lines(cells.chunks(n), front, |x| format!("{:016x}", x.to_bits()));
+    listing("listing", n, &hex, "");
+    sheet(n, &hex);
     listing("listing_decimals_13", n, &lines(cells.chunks(n), front, |x| format!("{x:.13}")), "");
     listing("listing_decimals_6", n, &lines(cells.chunks(n), front, |x| format!("{x:.6}")), "");
 }
