@@ -4,6 +4,7 @@
 --     first-fits         a node's part lies within the leaf order
 --     depth-few          fewer than n nodes are above a node
 --     members-done, members-are     the lookup, given the lists that `summarize` leaves and the order that `quasi_diagonalization` leaves, answers every node's leaves
+--     filled-at, looked-up          an entry of such a list, and the lookup in two of them
 --     part-subtotal, total-is       a branch's subtotal is the sum of its two children's, and the root's is the total
 --     branches-count     the sheet has 2n − 1 lines
 -- Assumes nothing.
@@ -14,6 +15,7 @@ use native.Mathlib.Nat.{le-refl}
 use native.Mathlib.Omega.{arith}
 use lib.ListN.{length, getD, take, drop, set, length-drop, length-append, List·getD-append}
 use lib.Seq.{take-append-le, drop-append-le}
+use Rattle.refusal.specs.declared.Outcome.{Outcome}
 use Rattle.refusal.specs.declared.Outcome.the-variants.{Done}
 use Rattle.lent.specs.Count.{overAll}
 use Rattle.lent.specs.Grid.{tab, noughts}
@@ -21,19 +23,21 @@ use Rattle.lent.specs.Lent.{laid}
 use Rattle.lent.proofs.Counting.{over-all-places}
 use Rattle.lent.proofs.Laws.{length-tab, getD-tab}
 use Rattle.tree.specs.Tree.{Tree, leaf, fork, left, right, leaves, leavesOf, treeAt}
+use Rattle.tree.specs.Order.{orderLaid}
 use Rattle.tree.specs.Inner.{OnTree}
 use Rattle.tree.proofs.Rows.{IsTree, is-tree}
 use Rattle.tree.proofs.Tree.{node-ind, on-left, on-right}
 use Rattle.tree.proofs.Walk.{leaves-leaf}
 use Rattle.tree.proofs.Order.{order-size}
+use Rattle.tree.proofs.Answer.{order-laid}
 use Rattle.branches.specs.Branch.{Branch, walk, branches, firstOf, sizeOf, depthOf, membersOf, subtotal}
 use Rattle.branches.specs.Inner.{Rooted}
-use Rattle.branches.specs.Summary.{summaryLaid, membersOutcome, partAt, partOf}
+use Rattle.branches.specs.Summary.{summaryOutcome, summaryLaid, membersOutcome, partAt, partOf}
 use Rattle.branches.proofs.Walk.{OnEach, walk-each}
 use Rattle.branches.proofs.Parts.{found, fork-size, size-is, part-is, first-is, depth-is, subtotal-fork, subtotal-all}
 use Rattle.branches.proofs.Descent.{descent-start, descent-step}
 use Rattle.branches.proofs.Passes.{Placing, Sinking, left-low, right-low, size-row, size-few}
-use Rattle.branches.proofs.Answer.{Within, within-passes}
+use Rattle.branches.proofs.Answer.{Within, within-passes, summary-passes}
 
 module _ {rows : List ℕ} {n : ℕ} (p : Rooted rows n) where
   some : 1 ≤ n
@@ -228,6 +232,22 @@ module _ {rows : List ℕ} {n : ℕ} (p : Rooted rows n) where
         (ap (take s) (drop-append-le f all rest (omega arith))
         ∙ take-append-le s (drop f all) rest (omega (arith, length-drop f all))
         ∙ part-is rows n some (p .tree) v h)
+
+  -- ---- the lists of 127 that `summarize` leaves, beside the order of 64 that `quasi_diagonalization` leaves
+
+  module _ (most : n ≤ 64) (said : Outcome) (e : said ≡ summaryOutcome rows n 127 127 127) where
+    filled : (f : ℕ → ℕ) (list : List ℕ) → list ≡ summaryLaid f said n 127 → list ≡ summaryLaid f Done n 127
+    filled f list l = l ∙ ap (λ (o : Outcome). summaryLaid f o n 127) (e ∙ summary-passes (record { most = most; one = omega arith; two = omega arith; three = omega arith; rooted = p }))
+
+    pub filled-at : (f : ℕ → ℕ) (list : List ℕ) → list ≡ summaryLaid f said n 127 → (v : ℕ) → v ≤ 2 * n - 2 → (v < length list) × (getD list v 0 ≡ f v)
+    filled-at f list l v h = rw (filled f list l) (entry-at f 127 v h)
+
+    pub looked-up : (order firsts sizes : List ℕ) → order ≡ orderLaid rows n (2 * n - 2) 64 → firsts ≡ summaryLaid (firstOf rows n) said n 127 → sizes ≡ summaryLaid (sizeOf rows n) said n 127
+        → (v : ℕ) → v ≤ 2 * n - 2 → partOf order firsts sizes n v ≡ leavesOf rows n v
+    looked-up order firsts sizes o f s v h =
+        let all = leavesOf rows n (2 * n - 2) in
+        let is : order ≡ all ++ noughts (64 - length all) = o ∙ order-laid (record { most = most; roomy = most; on = record { some = some; tree = p .tree; node = le-refl (2 * n - 2) } }) in
+        rw (is, filled (firstOf rows n) firsts f, filled (sizeOf rows n) sizes s) (members-are most (noughts (64 - length all)) 127 127 v h)
 
   -- ---- subtotals
 

@@ -1,6 +1,6 @@
 -- How a sheet ends: judged, and written where it is accepted. Assumes nothing.
 use Prim.Native.Nat.{ℕ, _-_, _≤_, _<_}
-use mathlib.Core.Path.{_≡_, refl, sym, ap, _∙_}
+use mathlib.Core.Path.{_≡_, sym, ap, _∙_}
 use mathlib.Core.Bool.{Bool, true}
 use mathlib.Core.List.{List}
 use native.Mathlib.Omega.{arith}
@@ -10,19 +10,19 @@ use lib.Seq.{take-at}
 use lib.Ieee.{Float}
 use Rattle.refusal.specs.Table.{first, andThen}
 use Rattle.refusal.specs.declared.Outcome.{Outcome}
-use Rattle.refusal.specs.declared.Outcome.the-variants.{Done, Refused}
+use Rattle.refusal.specs.declared.Outcome.the-variants.{Done}
 use Rattle.refusal.proofs.Tables.{none, both-done}
 use Rattle.lent.specs.Grid.{noughts}
 use Rattle.lent.specs.Lent.{laid}
 use Rattle.lent.proofs.Laws.{length-tab, getD-tab}
 use Rattle.fields.specs.Split.{all}
-use Rattle.millionths.specs.Millionths.{millionthsAt, millionthsIn, millionthsLines, millionthsOutcome, millionthsLaid}
+use Rattle.millionths.specs.Millionths.{millionthsAt, millionthsIn, millionthsOutcome, millionthsLaid}
 use Rattle.millionths.proofs.Lists.{accepted, at-most}
 use Rattle.tree.specs.Rows.{isTree}
 use Rattle.writing.specs.Writing.{Wrote}
 use Rattle.writing.proofs.Writing.{renamed}
 use Rattle.listing.specs.Listing.{nameIn, isShort}
-use Rattle.listing.proofs.Sheets.{parts-said, names-short}
+use Rattle.listing.proofs.Sheets.{then-parts, names-short}
 use Rattle.groups.specs.Groups.{leastSheet, groupLines, groupOutcome, groupSheet}
 use Rattle.groups.specs.Inner.{Sheetable}
 
@@ -52,12 +52,8 @@ right text starts count rows named room e =
 module _ (text starts : List ℕ) (ws : List Float) (rows : List ℕ) (named : Bool) (room : ℕ) (judged ranged said : Outcome)
     (j : judged ≡ first (groupLines text starts (length ws) rows named room)) (m : ranged ≡ millionthsOutcome ws 64) (t : said ≡ andThen judged ranged) where
   pub group-said : said ≡ groupOutcome text starts ws rows named room
-  unfolding groupOutcome andThen
-  group-said = t ∙ rw (j, m) (go (first (groupLines text starts (length ws) rows named room)) refl)
-    where
-      go : (o : Outcome) → first (groupLines text starts (length ws) rows named room) ≡ o → andThen o (millionthsOutcome ws 64) ≡ andThen o (first (millionthsLines ws))
-      go Done e = let r = right text starts (length ws) rows named room e in parts-said ws (omega (arith, r .few, r .weighed))
-      go (Refused k) e = refl
+  unfolding groupOutcome
+  group-said = t ∙ rw (j, m) (then-parts ws (first (groupLines text starts (length ws) rows named room)) (λ e. let r = right text starts (length ws) rows named room e in omega (arith, r .few, r .weighed)))
 
   module _ (d : said ≡ Done) (parts : List ℕ) (p : parts ≡ millionthsLaid ws 64) where
     both : (judged ≡ Done) × (ranged ≡ Done)

@@ -13,6 +13,7 @@ use Rattle.text.specs.Bytes.{bytes}
 use Rattle.writing.specs.Writing.{decimal, joined, Put, Wrote}
 use Rattle.writing.proofs.Writing.{nothing, renamed, then, put-fits, fit, fit-then, joined-le}
 use Rattle.writing.proofs.Digits.{decimal-long}
+use Rattle.listing.proofs.Lines.{name-put}
 use Rattle.groups.specs.declared.Group.{Group}
 use Rattle.groups.specs.Groups.{groupFields, indent, tagOf, groupLine, leastSheet}
 use Rattle.groups.specs.Inner.{lineRoom, Lined, lineAt}
@@ -68,7 +69,7 @@ module _ (name : ℕ → List ℕ) (n v : ℕ) where
 
   pub tag-put : {d d₁ d₂ : List ℕ} {at a₁ a₂ : ℕ} (s : List ℕ) → v < n → s ≡ name v → length s ≤ 16 → at + 17 ≤ length d → Put d at (9 ∷ []) d₁ a₁ → Put d₁ a₁ s d₂ a₂ → Wrote d at (tagOf name n v) d₂ a₂
   unfolding tagOf
-  tag-put s h e k room p q = rw (lt-ltb v n h) (renamed (9 ∷ name v) (fit-then (fit p) q .wrote (omega arith)) (ap (λ (l : List ℕ). 9 ∷ l) e))
+  tag-put s h e k room p q = rw (lt-ltb v n h) (renamed (9 ∷ name v) (name-put s p q k room) (ap (λ (l : List ℕ). 9 ∷ l) e))
 
   tag-le : (v < n → length (name v) ≤ 16) → length (tagOf name n v) ≤ 17
   unfolding tagOf

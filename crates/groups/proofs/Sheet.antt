@@ -2,29 +2,25 @@
 use Prim.Native.Nat.{ℕ, _+_, _-_, _*_, _≤_, _<_}
 use mathlib.Core.Path.{_≡_, refl, sym, ap, _∙_}
 use mathlib.Core.Bool.{Bool}
-use mathlib.Core.List.{List, _++_}
+use mathlib.Core.List.{List}
 use native.Mathlib.Omega.{arith}
 use native.Mathlib.Numerals.{add-one}
-use lib.ListN.{length, getD, take, length-append, length-replicate, List·getD-append}
+use lib.ListN.{length, getD, take, length-replicate}
 use lib.Seq.{take-at, take-suc, take-all}
 use Rattle.refusal.specs.declared.Outcome.{Outcome}
-use Rattle.refusal.specs.declared.Outcome.the-variants.{Done}
 use Rattle.lent.specs.Count.{overAll}
 use Rattle.lent.specs.Grid.{tab, over, noughts}
-use Rattle.lent.specs.Lent.{laid}
 use Rattle.lent.proofs.Laws.{length-tab, getD-tab, length-over, getD-over}
 use Rattle.lent.proofs.Counting.{over-all-snoc}
 use Rattle.tree.specs.Tree.{leavesOf}
 use Rattle.tree.specs.Order.{orderLaid}
 use Rattle.tree.specs.Inner.{OnTree}
 use Rattle.tree.proofs.Order.{leaves-low, leaves-few}
-use Rattle.tree.proofs.Answer.{order-laid}
 use Rattle.branches.specs.Branch.{firstOf, sizeOf, depthOf, membersOf, subtotal}
 use Rattle.branches.specs.Inner.{Rooted}
 use Rattle.branches.specs.Summary.{summaryOutcome, summaryLaid, partOf}
-use Rattle.branches.proofs.Answer.{summary-passes}
 use Rattle.branches.proofs.Parts.{part-is}
-use Rattle.branches.proofs.Sheet.{depth-few, members-are}
+use Rattle.branches.proofs.Sheet.{depth-few, filled-at, looked-up}
 use Rattle.writing.specs.Writing.{joined, Wrote}
 use Rattle.writing.proofs.Writing.{renamed, joined-ext}
 use Rattle.listing.specs.Listing.{nameIn}
@@ -73,36 +69,13 @@ module _ {text starts rows parts : List ℕ} (p : Sheetable text starts rows par
   pub lines-few : (nodes : List ℕ) (lines : ℕ) → NodesWritten rows n (2 * n - 2) (noughts 127) nodes lines → lines ≤ 127
   lines-few nodes lines w = omega (arith, w .size, nodes-size)
 
-  -- ---- the summary is made, and the order
-
-  summarized : summaryOutcome rows n 127 127 127 ≡ Done
-  summarized = let h = few in summary-passes (record { most = few; one = omega arith; two = omega arith; three = omega arith; rooted = rooted })
-
-  filled : (f : ℕ → ℕ) (r : Outcome) (list : List ℕ) → r ≡ summaryOutcome rows n 127 127 127 → list ≡ summaryLaid f r n 127 → list ≡ summaryLaid f Done n 127
-  filled f r list e l = l ∙ ap (λ (o : Outcome). summaryLaid f o n 127) (e ∙ summarized)
-
-  ordered : (order : List ℕ) → order ≡ orderLaid rows n (2 * n - 2) 64 → order ≡ leavesOf rows n (2 * n - 2) ++ noughts (64 - length (leavesOf rows n (2 * n - 2)))
-  ordered order e = e ∙ order-laid (record { most = few; roomy = few; on = on-root })
-
-  -- an entry of a filled list
-  laid-at : (f : ℕ → ℕ) (list : List ℕ) → list ≡ summaryLaid f Done n 127 → (v : ℕ) → v ≤ 2 * n - 2 → (v < length list) × (getD list v 0 ≡ f v)
-  unfolding summaryLaid laid
-  laid-at f list e v h =
-      let w = 2 * n - 1 in
-      let k : v < w = let s = p .some in omega arith in
-      let size = length-tab w f in
-      let rest = noughts (127 - length (tab w f)) in
-      (omega (arith, ap length e, length-append (tab w f) rest), ap (λ (l : List ℕ). getD l v 0) e ∙ List·getD-append (tab w f) rest 0 v (omega arith) ∙ getD-tab w f v 0 k)
-
   module _ (r : Outcome) (firsts sizes depths order : List ℕ) (e : r ≡ summaryOutcome rows n 127 127 127)
       (f : firsts ≡ summaryLaid (firstOf rows n) r n 127) (s : sizes ≡ summaryLaid (sizeOf rows n) r n 127) (d : depths ≡ summaryLaid (depthOf rows n) r n 127)
       (o : order ≡ orderLaid rows n (2 * n - 2) 64) where
     -- ---- every node's members
 
     part-of : (v : ℕ) → v ≤ 2 * n - 2 → partOf order firsts sizes n v ≡ leavesOf rows n v
-    part-of v h =
-        rw (ordered order o, filled (firstOf rows n) r firsts e f, filled (sizeOf rows n) r sizes e s)
-        (members-are rooted few (noughts (64 - length (leavesOf rows n (2 * n - 2)))) 127 127 v h)
+    part-of = looked-up rooted few r e order firsts sizes o f s
 
     members-of : (v : ℕ) → v ≤ 2 * n - 2 → partOf order firsts sizes n v ≡ membersOf rows n v
     members-of v h = part-of v h ∙ sym (part-is rows n (p .some) (p .tree) v h)
@@ -148,10 +121,10 @@ module _ {text starts rows parts : List ℕ} (p : Sheetable text starts rows par
           )
 
       depth-at : (v : ℕ) → v ≤ 2 * n - 2 → (v < length depths) × (getD depths v 0 ≡ depthOf rows n v)
-      depth-at = laid-at (depthOf rows n) depths (filled (depthOf rows n) r depths e d)
+      depth-at = filled-at rooted few r e (depthOf rows n) depths d
 
       size-at : (v : ℕ) → v ≤ 2 * n - 2 → (v < length sizes) × (getD sizes v 0 ≡ sizeOf rows n v)
-      size-at = laid-at (sizeOf rows n) sizes (filled (sizeOf rows n) r sizes e s)
+      size-at = filled-at rooted few r e (sizeOf rows n) sizes s
 
       pub lined : Lined front depths sizes totals
       lined = record {

@@ -51,11 +51,16 @@ made-refused o s room out k e z = record {
   told = sym (ap (λ (x : Outcome). tells x (length s)) e);
 }
 
--- ---- 13 and 18, by themselves
+-- ---- 13 and 18, by themselves and after what was judged before them
 
-pub parts-said : (ws : List Float) → length ws ≤ 64 → millionthsOutcome ws 64 ≡ first (millionthsLines ws)
+parts-said : (ws : List Float) → length ws ≤ 64 → millionthsOutcome ws 64 ≡ first (millionthsLines ws)
 unfolding millionthsOutcome millionthsTable
 parts-said ws h = table-pass _ OverLimit _ (le-ltb 64 (length ws) h) ∙ table-pass _ ShortBuffer _ (le-ltb 64 (length ws) h)
+
+pub then-parts : (ws : List Float) (o : Outcome) → (o ≡ Done → length ws ≤ 64) → andThen o (millionthsOutcome ws 64) ≡ andThen o (first (millionthsLines ws))
+unfolding andThen
+then-parts ws Done h = parts-said ws (h refl)
+then-parts ws (Refused k) h = refl
 
 -- ---- names of at most 16 bytes
 
@@ -87,12 +92,8 @@ right text starts count order room e =
 module _ (text starts : List ℕ) (ws : List Float) (order : List ℕ) (room : ℕ) (judged ranged said : Outcome)
     (j : judged ≡ first (sheetLines text starts (length ws) order room)) (m : ranged ≡ millionthsOutcome ws 64) (t : said ≡ andThen judged ranged) where
   pub sheet-said : said ≡ sheetOutcome text starts ws order room
-  unfolding sheetOutcome andThen
-  sheet-said = t ∙ rw (j, m) (go (first (sheetLines text starts (length ws) order room)) refl)
-    where
-      go : (o : Outcome) → first (sheetLines text starts (length ws) order room) ≡ o → andThen o (millionthsOutcome ws 64) ≡ andThen o (first (millionthsLines ws))
-      go Done e = let r = right text starts (length ws) order room e in parts-said ws (omega (arith, r .few, r .weighed))
-      go (Refused k) e = refl
+  unfolding sheetOutcome
+  sheet-said = t ∙ rw (j, m) (then-parts ws (first (sheetLines text starts (length ws) order room)) (λ e. let r = right text starts (length ws) order room e in omega (arith, r .few, r .weighed)))
 
   module _ (d : said ≡ Done) where
     both : (judged ≡ Done) × (ranged ≡ Done)

@@ -21,12 +21,10 @@ use Rattle.lent.proofs.Sizes.{laid-done, within-limit}
 use Rattle.tree.specs.Tree.{leavesOf}
 use Rattle.tree.specs.Order.{orderLaid}
 use Rattle.tree.proofs.Order.{leaves-few, leaves-low}
-use Rattle.tree.proofs.Answer.{order-laid}
 use Rattle.branches.specs.Branch.{firstOf, sizeOf}
 use Rattle.branches.specs.Summary.{summaryOutcome, summaryLaid}
 use Rattle.branches.specs.Inner.{Rooted}
-use Rattle.branches.proofs.Answer.{summary-passes}
-use Rattle.branches.proofs.Sheet.{members-are}
+use Rattle.branches.proofs.Sheet.{looked-up}
 use Rattle.clusters.specs.Clusters.{nth, shares, sharesOutcome, sharesAnswer, sharesLaid}
 use Rattle.clusters.specs.Shares.{none, some}
 use Rattle.clusters.proofs.Laws.{length-shares}
@@ -88,18 +86,10 @@ module _ {rows : List ℕ} {n : ℕ} (p : Below rows n (2 * n - 2)) where
   rooted : Rooted rows n
   rooted = record { some = p .on .some; tree = p .on .tree }
 
-  nodes-fit : (m : ℕ) → m ≡ 127 → 2 * n - 1 ≤ m
-  nodes-fit m e = omega (arith, p .most)
-
   pub summarized : (order firsts sizes : List ℕ) (said : Outcome) (a b c d : ℕ) → a ≡ 64 → b ≡ 127 → c ≡ 127 → d ≡ 127 → order ≡ orderLaid rows n (2 * n - 2) a
       → said ≡ summaryOutcome rows n b c d → firsts ≡ summaryLaid (firstOf rows n) said n b → sizes ≡ summaryLaid (sizeOf rows n) said n c → Summarized rows n order firsts sizes
   summarized order firsts sizes said a b c d ea eb ec ed o e f s =
-      let all = leavesOf rows n (2 * n - 2) in
-      let done : said ≡ Done = e ∙ summary-passes (record { most = p .most; one = nodes-fit b eb; two = nodes-fit c ec; three = nodes-fit d ed; rooted = rooted }) in
-      let o′ : order ≡ all ++ noughts (64 - length all) = o ∙ ap (orderLaid rows n (2 * n - 2)) ea ∙ order-laid (record { most = p .most; roomy = p .most; on = p .on }) in
-      let f′ : firsts ≡ summaryLaid (firstOf rows n) Done n b = f ∙ ap (λ (r : Outcome). summaryLaid (firstOf rows n) r n b) done in
-      let s′ : sizes ≡ summaryLaid (sizeOf rows n) Done n c = s ∙ ap (λ (r : Outcome). summaryLaid (sizeOf rows n) r n c) done in
-      record { part = λ v h. rw (o′, f′, s′) (members-are rooted (p .most) (noughts (64 - length all)) b c v h) }
+      record { part = looked-up rooted (p .most) said (rw (eb, ec, ed) at e) order firsts sizes (rw ea at o) (rw eb at f) (rw ec at s) }
 
 -- ---- one weight to each
 
