@@ -24,6 +24,7 @@ use Rattle.refusal.specs.declared.Refusal.the-variants.{
   MissingReturnsForTailRisk,
   ConfidenceOutOfRange,
   TotalOutOfReach,
+  CeilingsTooLow,
 }
 
 pub number-some : (r : Refusal) → numberOf r ≡ 0 → ⊥
@@ -44,6 +45,7 @@ number-some MalformedText e = omega arith
 number-some MissingReturnsForTailRisk e = omega arith
 number-some ConfidenceOutOfRange e = omega arith
 number-some TotalOutOfReach e = omega arith
+number-some CeilingsTooLow e = omega arith
 
 pub no-values-or-two : (r : Refusal) → (valuesOf r ≡ []) ⊎ ((k : ℕ) × ((n : ℕ) × (valuesOf r ≡ k ∷ n ∷ [])))
 no-values-or-two NoData = inl refl
@@ -63,3 +65,4 @@ no-values-or-two MalformedText = inl refl
 no-values-or-two MissingReturnsForTailRisk = inl refl
 no-values-or-two ConfidenceOutOfRange = inl refl
 no-values-or-two TotalOutOfReach = inl refl
+no-values-or-two CeilingsTooLow = inl refl

@@ -1,4 +1,4 @@
--- Document 01, "Refusal numbers", and document 02, requests 1 and 3: the number and the values of each case. Definitions only.
+-- Document 01, "Refusal numbers", and document 02, requests 1, 3 and 10: the number and the values of each case. Definitions only.
 use Prim.Native.Nat.{ℕ}
 use mathlib.Core.List.{List, [], _∷_}
 use Rattle.refusal.specs.declared.Refusal.{Refusal}
@@ -20,6 +20,7 @@ use Rattle.refusal.specs.declared.Refusal.the-variants.{
   MissingReturnsForTailRisk,
   ConfidenceOutOfRange,
   TotalOutOfReach,
+  CeilingsTooLow,
 }
 
 abbrev pub numberOf : Refusal → ℕ
@@ -55,6 +56,8 @@ numberOf MissingReturnsForTailRisk = 16
 numberOf ConfidenceOutOfRange = 17
 -- document 02, request 3: "18, after 13, when the missing amount is below 0 or above the asset count"
 numberOf TotalOutOfReach = 18
+-- document 02, request 10: "20, after 18, exactly when no list of whole millionths, none above its ceiling, totals one million"
+numberOf CeilingsTooLow = 20
 
 -- "Each refusal returns its number (6 also the count asked and the assets)"
 abbrev pub valuesOf : Refusal → List ℕ
@@ -75,3 +78,4 @@ valuesOf MalformedText = []
 valuesOf MissingReturnsForTailRisk = []
 valuesOf ConfidenceOutOfRange = []
 valuesOf TotalOutOfReach = []
+valuesOf CeilingsTooLow = []

@@ -25,6 +25,7 @@ pub enum Refusal {
     MissingReturnsForTailRisk,
     ConfidenceOutOfRange,
     TotalOutOfReach,
+    CeilingsTooLow,
 }
 
 pub enum Outcome {
@@ -56,6 +57,7 @@ pub fn number(r: Refusal) -> u8
         Refusal::MissingReturnsForTailRisk => 16,
         Refusal::ConfidenceOutOfRange => 17,
         Refusal::TotalOutOfReach => 18,
+        Refusal::CeilingsTooLow => 20,
     }
 }
 
@@ -84,6 +86,7 @@ pub fn requested(r: Refusal) -> usize
         Refusal::MissingReturnsForTailRisk => 0,
         Refusal::ConfidenceOutOfRange => 0,
         Refusal::TotalOutOfReach => 0,
+        Refusal::CeilingsTooLow => 0,
     }
 }
 
@@ -112,6 +115,7 @@ pub fn assets(r: Refusal) -> usize
         Refusal::MissingReturnsForTailRisk => 0,
         Refusal::ConfidenceOutOfRange => 0,
         Refusal::TotalOutOfReach => 0,
+        Refusal::CeilingsTooLow => 0,
     }
 }
 

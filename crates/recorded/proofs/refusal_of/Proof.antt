@@ -1,4 +1,7 @@
 -- `recorded::refusal_of` meets its contract. Assumes nothing.
+use mathlib.Core.Path.{sym, ap, _∙_}
+use Rattle.lent.specs.Lent.{answerTells}
+use Rattle.lent.specs.declared.Answer.{Answer}
 use borrow.Author.Needs.{needs}
 use Rattle.recorded.proofs.refusal_of.Statement.{statement}
 use Rattle.recorded.proofs.refusal_of.Tie as tie
@@ -16,7 +19,7 @@ returns : tie.Need-returns
 returns c = search needs
 
 returns-2 : tie.Need-returns-2
-returns-2 c = search needs
+returns-2 c = c .number .ensures ∙ ap (λ (a : Answer). answerTells a .number) (sym (c .before .before .answer .given .1))
 
 pub refusal-of-spec : {M : Type 1} → statement M
 refusal-of-spec =

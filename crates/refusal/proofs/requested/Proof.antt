@@ -58,6 +58,9 @@ enum-told-15 c = search needs
 enum-told-16 : tie.Need-enum-told-16
 enum-told-16 c = search needs
 
+enum-told-17 : tie.Need-enum-told-17
+enum-told-17 c = search needs
+
 returns : tie.Need-returns
 returns c = ap (λ (x : Refusal). getD (valuesOf x) 0 0) (sym (c .before .r .given .1))
 
@@ -109,6 +112,9 @@ returns-16 c = ap (λ (x : Refusal). getD (valuesOf x) 0 0) (sym (c .enum-told15
 returns-17 : tie.Need-returns-17
 returns-17 c = ap (λ (x : Refusal). getD (valuesOf x) 0 0) (sym (c .enum-told16 .given .1))
 
+returns-18 : tie.Need-returns-18
+returns-18 c = ap (λ (x : Refusal). getD (valuesOf x) 0 0) (sym (c .enum-told17 .given .1))
+
 pub requested-spec : {M : Type 1} → statement M
 requested-spec =
     tie.close
@@ -130,6 +136,7 @@ requested-spec =
     enum-told-14
     enum-told-15
     enum-told-16
+    enum-told-17
     returns
     returns-2
     returns-3
@@ -146,4 +153,5 @@ requested-spec =
     returns-14
     returns-15
     returns-16
-    returns-17)
+    returns-17
+    returns-18)
