@@ -66,6 +66,16 @@ pieces d (b ∷ s) = go (eqb b d) (pieces d s)
     go true ih = omega arith
     go false ih = omega (arith, length-onto b (split d s))
 
+-- one more piece than bytes, at most
+pub pieces-le : (d : ℕ) (s : List ℕ) → length (split d s) ≤ suc (length s)
+unfolding split
+pieces-le d [] = omega arith
+pieces-le d (b ∷ s) = go (eqb b d) (pieces-le d s)
+  where
+    go : (t : Bool) → length (split d s) ≤ suc (length s) → length (cond t ([] ∷ split d s) (onto b (split d s))) ≤ suc (suc (length s))
+    go true h = omega arith
+    go false h = omega (arith, length-onto b (split d s))
+
 -- where the first piece is all, it is the only one
 pub split-none : (d : ℕ) (s : List ℕ) → length s ≤ length (firstPiece d s) → split d s ≡ firstPiece d s ∷ []
 unfolding split firstPiece onto

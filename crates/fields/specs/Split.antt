@@ -1,5 +1,5 @@
 -- A list of bytes cut at a byte: "lines ended by a newline, fields parted by tabs". Definitions only.
-use Prim.Native.Nat.{ℕ, _+_}
+use Prim.Native.Nat.{ℕ, _+_, _-_}
 use mathlib.Core.Bool.{Bool, true, cond, _&&_}
 use mathlib.Core.List.{List, [], _∷_}
 use lib.Dec.{eqb}
@@ -25,6 +25,10 @@ split d (b ∷ s) = cond (eqb b d) ([] ∷ split d s) (onto b (split d s))
 -- piece k, counted from 0; nothing where there are not as many
 abbrev pub piece : ℕ → List ℕ → ℕ → List ℕ
 piece d s k = getD (split d s) k []
+
+-- the last piece
+abbrev pub lastPiece : ℕ → List ℕ → List ℕ
+lastPiece d s = piece d s (length (split d s) - 1)
 
 -- the first piece
 unfoldable pub firstPiece : ℕ → List ℕ → List ℕ

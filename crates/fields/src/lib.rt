@@ -3,7 +3,7 @@
 ghost use mathlib.Core.Path.{_≡_};
 ghost use Prim.Native.Nat.{_-_, _≤_};
 ghost use lib.ListN.{length};
-ghost use Rattle.fields.specs.Split.{split, endOf, piece as pieceOf};
+ghost use Rattle.fields.specs.Split.{split, endOf, lastPiece, piece as pieceOf};
 ghost use Rattle.fields.specs.Numerals.{bitsRead, numeralRead, digit as digitOf};
 ghost use Rattle.fields.specs.Inner.{spelledAfter};
 
@@ -62,6 +62,20 @@ pub fn piece(s: &[u8], d: u8, k: usize) -> &[u8]
     }
     let e = end_of(s, d, at);
     &s[at..e]
+}
+
+// The piece after the last d; all where there is none.
+pub fn last_piece(s: &[u8], d: u8) -> &[u8]
+    ensures { λ r. ⌜ now r ≡ lastPiece d (now (s .entry)) ⌝ }
+{
+    let mut k = s.len();
+    while 0 < k {
+        if s[k - 1] == d {
+            return &s[k..];
+        }
+        k -= 1;
+    }
+    s
 }
 
 // What a digit is worth; 16 where the byte is no digit.

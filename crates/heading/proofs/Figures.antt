@@ -16,7 +16,7 @@ use Rattle.linkage.specs.declared.Distance.{Distance}
 use Rattle.linkage.specs.declared.Distance.the-variants.{Correlation, DistanceOfDistances}
 use Rattle.linkage.specs.declared.Linkage.{Linkage}
 use Rattle.linkage.specs.declared.Linkage.the-variants.{Single, Complete, Average, Ward}
-use Rattle.heading.specs.Heading.{clustersOf, pricesAfter, isOf, isHrp, isHcaa, isPriced, distanceField, unknownLines, headLines, headOutcome, headOf}
+use Rattle.heading.specs.Heading.{clustersOf, pricesAfter, ceilingsAfter, isOf, isHrp, isHcaa, ownFields, isPriced, isCeiled, distanceField, unknownLines, headLines, headOutcome, headOf}
 use Rattle.heading.specs.declared.Asked.{Asked}
 use Rattle.heading.specs.declared.Asked.the-variants as asked
 use Rattle.heading.specs.declared.Heading.{Heading}
@@ -47,7 +47,7 @@ clusters =
     ∷ eqb (asks (bytes "1a")) 2000
     ∷ []
 
--- the refusal's number; 100 or 200 for an `hrp` line by its distance, 1000 and more with that for an `hcaa` line by its linkage; 10,000 more where prices follow
+-- the refusal's number; 100 or 200 for an `hrp` line by its distance, 1000 and more with that for an `hcaa` line by its linkage; 10,000 more where prices follow, and 20,000 where there are ceilings
 abbrev distances : Distance → ℕ
 distances Correlation = 100
 distances DistanceOfDistances = 200
@@ -64,7 +64,7 @@ told (heading.Hrp d) = distances d
 told (heading.Hcaa l d) = linkages l + distances d
 
 abbrev heads : List ℕ → ℕ
-heads l = told (headOf l) + cond (isPriced l) 10000 0
+heads l = told (headOf l) + cond (isPriced l) 10000 0 + cond (isCeiled l) 20000 0
 
 -- the table says the same number
 abbrev tabled : Outcome → ℕ
@@ -86,8 +86,13 @@ lines =
     ∷ accepted (bytes "hcaa\tnone\tWARD\tdistance_of_distances\t3\tprices") 14200
     ∷ accepted (bytes "hcaa\t\tcomplete\tcorrelation\t0") 2100
     ∷ accepted (bytes "hcaa\tprices\taverage\tcorrelation\t000000001\tprices") 13100
-    -- a distance named `prices`
+    ∷ accepted (bytes "hrp\tcorrelation\tceilings") 20100
+    ∷ accepted (bytes "hrp\tcorrelation\tprices\tceilings") 30100
+    ∷ accepted (bytes "hcaa\tequal_weighting\tsingle\tcorrelation\t-\tceilings") 21100
+    ∷ accepted (bytes "hcaa\tnone\tWARD\tdistance_of_distances\t3\tprices\tceilings") 34200
+    -- a distance named `prices`, or `ceilings`
     ∷ refused (bytes "hrp\tprices") 7
+    ∷ refused (bytes "hrp\tceilings") 7
     -- in order: 15, 8, 7; a line whose names are not known still says what follows it
     ∷ refused (bytes "hcaa\tequal_weighting\tnone\tnone\tx") 15
     ∷ refused (bytes "hcaa\tequal_weighting\tnone\tnone\t-") 8
@@ -104,6 +109,11 @@ lines =
     ∷ refused (bytes "hrp\tcorrelation\tprice") 15
     ∷ refused (bytes "hrp\tcorrelation\tprices\t") 15
     ∷ refused (bytes "hrp\tcorrelation\tprices\tprices") 15
+    ∷ refused (bytes "hrp\tcorrelation\tceilings\tprices") 15
+    ∷ refused (bytes "hrp\tcorrelation\tceilings\tceilings") 15
+    ∷ refused (bytes "hrp\tcorrelation\tprices\tceilings\t") 15
+    ∷ refused (bytes "hrp\tcorrelation\tceiling") 15
+    ∷ refused (bytes "hcaa\tequal_weighting\tsingle\tcorrelation\tceilings") 15
     ∷ refused (bytes "hcaa\tequal_weighting\tsingle\tcorrelation\t-\tdays") 15
     ∷ refused (bytes "hcaa\tequal_weighting\tsingle\tcorrelation\t-\tprices\tprices") 15
     ∷ refused (bytes "hrp\tequal_weighting\tsingle\tcorrelation\t-") 15
@@ -111,5 +121,5 @@ lines =
     ∷ []
 
 pub figures : all clusters && all lines ≡ true
-unfolding first same lower lowered isWord onto split every digit number isNumeral numeralRead distanceNamed linkageNamed clustersOf pricesAfter isOf isHrp isHcaa isPriced distanceField unknownLines headLines headOutcome headOf
+unfolding first same lower lowered isWord onto split every digit number isNumeral numeralRead distanceNamed linkageNamed clustersOf pricesAfter ceilingsAfter isOf isHrp isHcaa ownFields isPriced isCeiled distanceField unknownLines headLines headOutcome headOf
 figures = refl

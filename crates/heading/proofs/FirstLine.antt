@@ -1,14 +1,17 @@
 -- The first line, by its number of fields and by single fields. Assumes nothing.
-use Prim.Native.Nat.{ℕ, _+_, _-_, _≤_}
+use Prim.Native.Nat.{ℕ, _+_, _-_, _≤_, _<_}
 use mathlib.Core.Path.{_≡_, refl, sym, ap, _∙_}
-use mathlib.Core.Bool.{Bool, true, false, _&&_, _||_}
+use mathlib.Core.Bool.{Bool, true, false}
 use mathlib.Core.List.{List}
-use mathlib.Core.Logic.{_⊎_, inl, inr, ⊎-elim}
+use mathlib.Core.Logic.{⊎-elim}
 use native.Mathlib.Omega.{arith}
-use borrow.Author.Tests.{eq-eqb, ne-eqb, eqb-true}
+use borrow.Author.Tests.{eq-eqb, ne-eqb, eqb-true, eqb-false, lt-ltb, le-ltb}
 use lib.Dec.{eqb}
 use lib.ListN.{length}
 use Rattle.refusal.specs.declared.Refusal.{Refusal}
+use Rattle.lent.specs.Count.{one}
+use Rattle.lent.proofs.Laws.{either}
+use Rattle.lent.proofs.Counting.{one-le}
 use Rattle.text.specs.Bytes.{bytes, same}
 use Rattle.fields.specs.Split.{split}
 use Rattle.fields.proofs.Every.{both-left}
@@ -19,31 +22,39 @@ use Rattle.linkage.specs.declared.NamedDistance.{NamedDistance}
 use Rattle.linkage.specs.declared.NamedLinkage.{NamedLinkage}
 use Rattle.linkage.specs.declared.NamedDistance.the-variants as distance
 use Rattle.linkage.specs.declared.NamedLinkage.the-variants as linkage
-use Rattle.heading.specs.Heading.{field, fieldsIn, clustersOf, wellAsked, pricesAfter, isOf, isHrp, isHcaa, isPriced, hcaaAsked}
+use Rattle.heading.specs.Heading.{field, fieldsIn, lastField, clustersOf, wellAsked, pricesAfter, ceilingsAfter, isOf, isHrp, isHcaa, ownFields, isPriced, isCeiled, hcaaAsked}
 use Rattle.heading.specs.declared.Heading.the-variants as heading
 
 -- a test of a piece, by what a call of it said
 pub told : (f : List ℕ → Bool) (r t : Bool) (a k : List ℕ) → r ≡ f a → a ≡ k → r ≡ t → f k ≡ t
 told f r t a k e g h = ap f (sym g) ∙ sym e ∙ h
 
+-- equalities that hold together are tested alike
+same-equal : (a b c d : ℕ) → (a ≡ b → c ≡ d) → (c ≡ d → a ≡ b) → eqb a b ≡ eqb c d
+same-equal a b c d f g =
+    ⊎-elim
+    (λ e. e ∙ sym (eq-eqb c d (f (eqb-true a b e))))
+    (λ e. e ∙ sym (ne-eqb c d (λ h. eqb-false a b e (g h))))
+    (either (eqb a b))
+
 -- ---- fields counted by the tabs between them
 
+pub prices-is : (l : List ℕ) (k : ℕ) → same (field l k) (bytes "prices") ≡ pricesAfter k l
+unfolding pricesAfter
+prices-is l k = refl
+
 module _ (l : List ℕ) (k tabs : ℕ) (counted : tabs ≡ length (split 9 l) - 1) where
-  pub prices-other : (tabs ≡ k → ⊥) → pricesAfter k l ≡ false
-  unfolding pricesAfter
-  prices-other h = rw (ne-eqb (length (split 9 l)) (k + 1) (λ e. h (omega arith)))
+  pub ceilings-other : tabs < k → ceilingsAfter k l ≡ false
+  unfolding ceilingsAfter
+  ceilings-other h = let p = pieces 9 l in rw (le-ltb k (length (split 9 l)) (omega arith))
 
-  pub prices-named : tabs ≡ k → pricesAfter k l ≡ same (field l k) (bytes "prices")
-  unfolding pricesAfter
-  prices-named h = let p = pieces 9 l in rw (eq-eqb (length (split 9 l)) (k + 1) (omega arith))
+  pub ceilings-named : k ≤ tabs → ceilingsAfter k l ≡ same (lastField l) (bytes "ceilings")
+  unfolding ceilingsAfter
+  ceilings-named h = let p = pieces 9 l in rw (lt-ltb k (length (split 9 l)) (omega arith))
 
-  pub of-fields : 1 ≤ k → tabs ≡ k - 1 → isOf k l ≡ true
+  pub of-fields : 1 ≤ k → (said : ℕ) → said ≡ one (pricesAfter k l) + one (ceilingsAfter k l) → eqb tabs (k - 1 + said) ≡ isOf k l
   unfolding isOf
-  of-fields m h = let p = pieces 9 l in rw (eq-eqb (length (split 9 l)) k (omega arith))
-
-  pub of-prices : 1 ≤ k → (tabs ≡ k - 1 → ⊥) → isOf k l ≡ pricesAfter k l
-  unfolding isOf
-  of-prices m h = rw (ne-eqb (length (split 9 l)) k (λ e. h (omega arith)))
+  of-fields m said e = let p = pieces 9 l in same-equal tabs (k - 1 + said) (length (split 9 l)) (k + one (pricesAfter k l) + one (ceilingsAfter k l)) (λ h. omega arith) (λ h. omega arith)
 
 -- ---- the two kinds of line
 
@@ -68,41 +79,43 @@ module _ (l : List ℕ) where
   unfolding isHcaa
   hcaa-named h e = rw (h, e)
 
-  pub priced-hrp : isHrp l ≡ true → isPriced l ≡ pricesAfter 2 l
+  pub own-hrp : isHrp l ≡ true → 2 ≡ ownFields l
+  unfolding ownFields
+  own-hrp e = rw e
+
+  pub own-hcaa : isHrp l ≡ false → isHcaa l ≡ true → 5 ≡ ownFields l
+  unfolding ownFields
+  own-hcaa e f = rw (e, f)
+
+  pub own-none : isHrp l ≡ false → isHcaa l ≡ false → fieldsIn l ≡ ownFields l
+  unfolding ownFields
+  own-none e f = rw (e, f)
+
+  pub priced-own : (k : ℕ) → k ≡ ownFields l → pricesAfter k l ≡ isPriced l
   unfolding isPriced
-  priced-hrp e = rw e
+  priced-own k e = rw e
 
-  pub priced-none : isHrp l ≡ false → isHcaa l ≡ false → isPriced l ≡ false
-  unfolding isPriced
-  priced-none e f = rw (e, f)
+  pub ceiled-own : (k : ℕ) → k ≡ ownFields l → ceilingsAfter k l ≡ isCeiled l
+  unfolding isCeiled
+  ceiled-own k e = rw e
 
-  pub priced-hcaa : isHrp l ≡ false → isHcaa l ≡ true → isPriced l ≡ pricesAfter 5 l
-  unfolding isPriced
-  priced-hcaa e f = rw (e, f)
+-- k fields, or one or two more
+of-count : (k : ℕ) (l : List ℕ) → isOf k l ≡ true → (k ≤ fieldsIn l) × (fieldsIn l ≤ k + 2)
+unfolding isOf
+of-count k l e =
+    let f = eqb-true (fieldsIn l) (k + one (pricesAfter k l) + one (ceilingsAfter k l)) e in
+    let p = one-le (pricesAfter k l) in
+    let c = one-le (ceilingsAfter k l) in
+    (omega arith, omega arith)
 
--- k fields, or one more
-of-count : (k : ℕ) (l : List ℕ) → isOf k l ≡ true → (fieldsIn l ≡ k) ⊎ (fieldsIn l ≡ k + 1)
-unfolding isOf pricesAfter
-of-count k l e = go (eqb (fieldsIn l) k) (eqb (fieldsIn l) (k + 1)) _ refl refl e
-  where
-    go : (a b c : Bool) → eqb (fieldsIn l) k ≡ a → eqb (fieldsIn l) (k + 1) ≡ b → (a || (b && c)) ≡ true → (fieldsIn l ≡ k) ⊎ (fieldsIn l ≡ k + 1)
-    go true b c p q h = inl (eqb-true (fieldsIn l) k p)
-    go false true c p q h = inr (eqb-true (fieldsIn l) (k + 1) q)
-    go false false c p q h = absurd (let z : _≡_ {A = ℕ} 0 1 = cc in omega arith)
-
--- a line is not both: one has 2 or 3 fields, the other 5 or 6
+-- a line is not both: one has 2 to 4 fields, the other 5 to 7
 pub hrp-not-hcaa : (l : List ℕ) → isHrp l ≡ true → isHcaa l ≡ false
 unfolding isHrp isHcaa
 hrp-not-hcaa l e = go (isOf 5 l) refl
   where
     go : (t : Bool) → isOf 5 l ≡ t → isHcaa l ≡ false
     go false f = rw f
-    go true f =
-        absurd
-        (⊎-elim
-        (λ a. ⊎-elim (λ b. omega arith) (λ b. omega arith) (of-count 5 l f))
-        (λ a. ⊎-elim (λ b. omega arith) (λ b. omega arith) (of-count 5 l f))
-        (of-count 2 l (both-left (isOf 2 l) _ e)))
+    go true f = let a = of-count 2 l (both-left (isOf 2 l) _ e) in let b = of-count 5 l f in absurd (omega arith)
 
 -- ---- what an `hcaa` line asks for
 

@@ -1,15 +1,16 @@
--- Document 01, "Millionths and the job program": the first line of a job text. Document 02, request 8: "the first line gains a last field `prices`". Definitions only.
+-- Document 01, "Millionths and the job program": the first line of a job text. Document 02, requests 8 and 10: its last fields `prices` and `ceilings`. Definitions only.
 use Prim.Native.Nat.{ℕ, _+_}
 use mathlib.Core.Bool.{Bool, true, false, not, cond, _&&_, _||_}
 use mathlib.Core.List.{List, [], _∷_}
-use lib.Dec.{eqb}
+use lib.Dec.{ltb, eqb}
 use lib.ListN.{length}
 use Rattle.refusal.specs.Table.{Line, first}
 use Rattle.refusal.specs.Telling.{Telling, accepts, refuses}
 use Rattle.refusal.specs.declared.Refusal.the-variants.{UnknownDistance, UnknownLinkage, MalformedText}
 use Rattle.refusal.specs.declared.Outcome.{Outcome}
 use Rattle.text.specs.Bytes.{bytes, same}
-use Rattle.fields.specs.Split.{tabulator, split, piece}
+use Rattle.lent.specs.Count.{one}
+use Rattle.fields.specs.Split.{tabulator, split, piece, lastPiece}
 use Rattle.fields.specs.Numerals.{numeralRead}
 use Rattle.fields.specs.declared.Numeral.{Numeral}
 use Rattle.fields.specs.declared.Numeral.the-variants as numeral
@@ -29,6 +30,9 @@ field l k = piece tabulator l k
 
 abbrev pub fieldsIn : List ℕ → ℕ
 fieldsIn l = length (split tabulator l)
+
+abbrev pub lastField : List ℕ → List ℕ
+lastField l = lastPiece tabulator l
 
 -- ---- "First line: `hrp` and distance; or `hcaa`, metric, linkage, distance, clusters (1 to 9 digits, or `-` for all)."
 
@@ -55,15 +59,20 @@ askedTells asked.Malformed = refuses MalformedText
 askedTells asked.All = accepts asked.All
 askedTells (asked.Count k) = accepts (asked.Count k)
 
--- "the first line gains a last field `prices`", after the k fields that the job has without it
+-- request 8: "the first line gains a last field `prices`", after the k fields that the job has without it
 unfoldable pub pricesAfter : ℕ → List ℕ → Bool
 unfolding split same
-pricesAfter k l = eqb (fieldsIn l) (k + 1) && same (field l k) (bytes "prices")
+pricesAfter k l = same (field l k) (bytes "prices")
 
--- k fields, or k and `prices`
+-- request 10: "`ceilings` as the last field of its first line", after `prices` where both stand
+unfoldable pub ceilingsAfter : ℕ → List ℕ → Bool
+unfolding split same
+ceilingsAfter k l = ltb k (fieldsIn l) && same (lastField l) (bytes "ceilings")
+
+-- k fields, and those of these two that stand after them
 unfoldable pub isOf : ℕ → List ℕ → Bool
-unfolding split pricesAfter
-isOf k l = eqb (fieldsIn l) k || pricesAfter k l
+unfolding split pricesAfter ceilingsAfter
+isOf k l = eqb (fieldsIn l) (k + one (pricesAfter k l) + one (ceilingsAfter k l))
 
 unfoldable pub isHrp : List ℕ → Bool
 unfolding split same isOf
@@ -73,10 +82,20 @@ unfoldable pub isHcaa : List ℕ → Bool
 unfolding split same isOf clustersOf
 isHcaa l = isOf 5 l && (same (field l 0) (bytes "hcaa") && wellAsked (clustersOf (field l 4)))
 
+-- the fields that a job has without them; all, where the line is none of a job
+unfoldable pub ownFields : List ℕ → ℕ
+unfolding split isHrp isHcaa
+ownFields l = cond (isHrp l) 2 (cond (isHcaa l) 5 (fieldsIn l))
+
 -- whether "a new prices block" stands "in place of the covariance"
 unfoldable pub isPriced : List ℕ → Bool
-unfolding isHrp isHcaa pricesAfter
-isPriced l = cond (isHrp l) (pricesAfter 2 l) (isHcaa l && pricesAfter 5 l)
+unfolding ownFields pricesAfter
+isPriced l = pricesAfter (ownFields l) l
+
+-- whether the assets have ceilings
+unfoldable pub isCeiled : List ℕ → Bool
+unfolding ownFields ceilingsAfter
+isCeiled l = ceilingsAfter (ownFields l) l
 
 -- ---- refusals: "15, 8, 7"
 

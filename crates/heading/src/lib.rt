@@ -1,4 +1,4 @@
-// The first line of a job text: which allocator it asks for, how, and whether prices follow it.
+// The first line of a job text: which allocator it asks for, how, and whether prices and ceilings follow it.
 
 use fields::Numeral;
 use linkage::Distance;
@@ -8,8 +8,9 @@ use linkage::NamedLinkage;
 use refusal::Refusal;
 ghost use mathlib.Core.Path.{_≡_};
 ghost use Prim.Native.Nat.{_≤_};
+ghost use Rattle.lent.specs.Count.{one};
 ghost use Rattle.linkage.specs.Names.{distanceNamed, linkageNamed};
-ghost use Rattle.heading.specs.Heading.{field, clustersOf, wellAsked, pricesAfter, isOf, isHrp, isHcaa, isPriced, hrpAsked, hcaaAsked, headOf};
+ghost use Rattle.heading.specs.Heading.{field, clustersOf, wellAsked, pricesAfter, ceilingsAfter, isOf, isHrp, isHcaa, ownFields, isPriced, isCeiled, hrpAsked, hcaaAsked, headOf};
 
 // How many clusters a job asks for.
 pub enum Asked {
@@ -56,25 +57,41 @@ fn is_asked(w: &[u8]) -> bool
     }
 }
 
-// Whether `prices` stands after k fields, and nothing after it.
+// Whether `prices` stands after k fields.
 fn prices_after(line: &[u8], k: usize) -> bool
     ensures { λ r. ⌜ r ≡ pricesAfter k (now (line .entry)) ⌝ }
 {
-    if fields::count(line, 9) != k {
-        return false;
-    }
     text::same(fields::piece(line, 9, k), b"prices")
 }
 
-// Whether a line has k fields, or k and `prices`.
+// Whether `ceilings` stands last, after k fields or more.
+fn ceilings_after(line: &[u8], k: usize) -> bool
+    ensures { λ r. ⌜ r ≡ ceilingsAfter k (now (line .entry)) ⌝ }
+{
+    if fields::count(line, 9) < k {
+        return false;
+    }
+    text::same(fields::last_piece(line, 9), b"ceilings")
+}
+
+// One field more where it is there.
+fn more(there: bool) -> usize
+    ensures { λ r. ⌜ r ≡ one there ⌝ }
+{
+    if there {
+        return 1;
+    }
+    0
+}
+
+// Whether a line has k fields, and after them nothing but `prices` and `ceilings`.
 fn is_of(line: &[u8], k: usize) -> bool
     requires { ⌜ 1 ≤ k ⌝ }
+    requires { ⌜ k ≤ 5 ⌝ }
     ensures { λ r. ⌜ r ≡ isOf k (now (line .entry)) ⌝ }
 {
-    if fields::count(line, 9) == k - 1 {
-        return true;
-    }
-    prices_after(line, k)
+    let said = more(prices_after(line, k)) + more(ceilings_after(line, k));
+    fields::count(line, 9) == k - 1 + said
 }
 
 // A first line of an `hrp` job, its name exact.
@@ -100,17 +117,31 @@ fn is_hcaa(line: &[u8]) -> bool
     is_asked(fields::piece(line, 9, 4))
 }
 
+// The fields that a job has before `prices` and `ceilings`; all, where the line is none of a job.
+fn own_fields(line: &[u8]) -> usize
+    ensures { λ r. ⌜ r ≡ ownFields (now (line .entry)) ⌝ }
+{
+    if is_hrp(line) {
+        return 2;
+    }
+    if is_hcaa(line) {
+        return 5;
+    }
+    fields::count(line, 9) + 1
+}
+
 // Whether prices follow, in place of a covariance.
 pub fn is_priced(line: &[u8]) -> bool
     ensures { λ r. ⌜ r ≡ isPriced (now (line .entry)) ⌝ }
 {
-    if is_hrp(line) {
-        return prices_after(line, 2);
-    }
-    if !is_hcaa(line) {
-        return false;
-    }
-    prices_after(line, 5)
+    prices_after(line, own_fields(line))
+}
+
+// Whether the assets have ceilings.
+pub fn is_ceiled(line: &[u8]) -> bool
+    ensures { λ r. ⌜ r ≡ isCeiled (now (line .entry)) ⌝ }
+{
+    ceilings_after(line, own_fields(line))
 }
 
 // What an `hrp` line asks for.

@@ -12,7 +12,7 @@ use Rattle.heading.proofs.is_hcaa.Statement.{statement}
 use Rattle.heading.proofs.is_hcaa.Tie as tie
 
 is-of-requires : tie.Need-is-of-requires
-is-of-requires c κs = omega arith
+is-of-requires c κs = (omega arith, omega arith)
 
 returns : tie.Need-returns
 returns c = sym (hcaa-other _ (sym (c .before .is-of .ensures) ∙ not-true _ (c .if1 .taken)))

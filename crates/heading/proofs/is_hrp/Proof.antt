@@ -11,7 +11,7 @@ use Rattle.heading.proofs.is_hrp.Statement.{statement}
 use Rattle.heading.proofs.is_hrp.Tie as tie
 
 is-of-requires : tie.Need-is-of-requires
-is-of-requires c κs = omega arith
+is-of-requires c κs = (omega arith, omega arith)
 
 returns : tie.Need-returns
 returns c = sym (hrp-other _ (sym (c .before .is-of .ensures) ∙ not-true _ (c .if1 .taken)))

@@ -1,18 +1,12 @@
 -- `heading::prices_after` meets its contract. Assumes nothing.
 use Prim.Native.Nat.{ℕ}
-use mathlib.Core.Path.{sym, ap, _∙_}
+use mathlib.Core.Path.{ap, _∙_}
 use mathlib.Core.List.{List}
 use Rattle.text.specs.Bytes.{bytes, same}
-use Rattle.heading.proofs.FirstLine.{prices-other, prices-named}
+use Rattle.heading.proofs.FirstLine.{prices-is}
 use borrow.Author.Needs.{needs}
 use Rattle.heading.proofs.prices_after.Statement.{statement}
 use Rattle.heading.proofs.prices_after.Tie as tie
-
-count-requires : tie.Need-count-requires
-count-requires c κs = search needs
-
-returns : tie.Need-returns
-returns c = sym (prices-other _ _ _ (c .before .count .ensures) (c .if1 .taken))
 
 piece-requires : tie.Need-piece-requires
 piece-requires c κs = search needs
@@ -23,20 +17,8 @@ slice-aggregate-same c = search needs
 same-requires : tie.Need-same-requires
 same-requires c κs = search needs
 
-returns-2 : tie.Need-returns-2
-returns-2 c =
-    let p = c .before .before in
-    let i = p .before in
-    let k = i .before in
-    c .same .ensures ∙ ap (λ (w : List ℕ). same w (bytes "prices")) (p .piece .ensures) ∙ sym (prices-named _ _ _ (k .count .ensures) (i .if1 .left))
+returns : tie.Need-returns
+returns c = c .same .ensures ∙ ap (λ (w : List ℕ). same w (bytes "prices")) (c .before .before .piece .ensures) ∙ prices-is _ _
 
 pub prices-after-spec : {M : Type 1} → statement M
-prices-after-spec =
-    tie.close
-    (tie.spec
-    count-requires
-    returns
-    piece-requires
-    slice-aggregate-same
-    same-requires
-    returns-2)
+prices-after-spec = tie.close (tie.spec piece-requires slice-aggregate-same same-requires returns)
