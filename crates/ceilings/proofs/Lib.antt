@@ -1,0 +1,9 @@
+pub mod Handed
+pub mod Totals
+pub mod Capped
+pub mod Called
+pub mod Unlike
+pub mod Weighed
+pub mod Ended
+pub mod Written
+pub mod Examples

@@ -1,0 +1,5 @@
+pub mod Ceilings
+pub mod Meaning
+pub mod Figures
+pub mod Written
+pub mod Inner
