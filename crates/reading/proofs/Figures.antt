@@ -14,31 +14,39 @@ use Rattle.text.specs.Bytes.{bytes, same, lower, lowered, isWord}
 use Rattle.fields.specs.Split.{onto, split, firstPiece, endOf, all as every}
 use Rattle.fields.specs.Numerals.{digit, number, isBits, isNumeral, numeralRead}
 use Rattle.decimals.specs.Decimal.{signed, bare, shaped, isBare, digitsOf, overTens, signedBy, isDecimal, decimalOf, isCell, cellOf}
-use Rattle.heading.specs.Heading.{clustersOf, pricesAfter, isOf, isHrp, isHcaa, isPriced, distanceField, unknownLines, headOf}
+use Rattle.ceilings.specs.Written.{ceilingOf, isCeiling}
+use Rattle.heading.specs.Heading.{clustersOf, pricesAfter, ceilingsAfter, isOf, isHrp, isHcaa, ownFields, isPriced, isCeiled, distanceField, unknownLines, headOf}
 use Rattle.linkage.specs.Names.{distanceNamed, linkageNamed}
 use Rattle.linkage.specs.declared.Distance.{Distance}
 use Rattle.linkage.specs.declared.Distance.the-variants.{Correlation, DistanceOfDistances}
 use Rattle.reading.specs.declared.Reading.{Reading}
 use Rattle.names.specs.Names.{isName}
-use Rattle.reading.specs.Reading.{priced, rowsIn, assets, isRow, isAsset, isDay, isNames, isCovariance, isPrices, isBlock, isJob, textCell, cellsIn, nameOf, startOf, nameStart, startsIn, isOver, textLines, readTable, readOutcome, jobIn, readOf}
+use Rattle.reading.specs.Reading.{priced, ceiled, headIn, rowsIn, assets, isRow, rowFields, isAsset, isDay, isNames, isCeilings, isCovariance, isPrices, isBlock, isJob, textCell, cellsIn, nameOf, startOf, nameStart, startsIn, textCeiling, ceilingsIn, isOver, textLines, ReadRoom, readTable, readOutcome, blockIn, jobIn, readOf}
+use Rattle.reading.specs.declared.Block.{Block}
 use Rattle.reading.specs.declared.Reading.the-variants as reading
 
 abbrev all : List Bool → Bool
 all [] = true
 all (b ∷ bs) = b && all bs
 
--- the refusal's number; 100, 200 and so on for a job, with its assets added; where prices follow 10,000 more, and as many hundred thousands as days
+-- the refusal's number; 100, 200 and so on for a job, with its assets added; with ceilings 20,000 more; where prices follow 10,000 more, and as many hundred thousands as days
 abbrev metric : Distance → ℕ
 metric Correlation = 100
 metric DistanceOfDistances = 200
 
+abbrev blocked : Block → ℕ
+blocked b = b .assets + cond (b .ceiled) 20000 0 + cond (b .priced) (10000 + b .rows * 100000) 0
+
 abbrev told : Reading → ℕ
 told (reading.Refused r) = numberOf r
-told (reading.Hrp n rows p d) = n + metric d + cond p (10000 + rows * 100000) 0
-told (reading.Hcaa n rows p m d) = n + metric d + 1000 + cond p (10000 + rows * 100000) 0
+told (reading.Hrp b d) = blocked b + metric d
+told (reading.Hcaa b m d) = blocked b + metric d + 1000
+
+abbrev within : ℕ → ℕ → ℕ → ReadRoom
+within c s l = record { cells = c; starts = s; ceilings = l }
 
 abbrev read : List ℕ → ℕ
-read text = told (readOf text 4096 64)
+read text = told (readOf text (within 4096 64 64))
 
 -- an `hrp` text of one asset
 abbrev alone : List ℕ → List ℕ → List ℕ
@@ -68,6 +76,21 @@ half = 0x3fe0_0000_0000_0000
 
 abbrev days : List ℕ
 days = bytes "hrp\tcorrelation\tprices\n" ++ bytes "AA\tBB\n" ++ bytes "1\t2.0\n" ++ bytes "002\t1.00\n" ++ bytes "0.5\t2\n"
+
+-- document 01's with ceilings, the first with a zero more in front
+abbrev capped : List ℕ
+capped =
+    bytes "hcaa\tequal_weighting\tsingle\tcorrelation\t-\tceilings\n"
+    ++ bytes "A\t3ff0000000000000\t3fe0000000000000\t0000000000000000\t0600000\n"
+    ++ bytes "B\t3fe0000000000000\t3ff0000000000000\t0000000000000000\t500000\n"
+    ++ bytes "C\t0000000000000000\t0000000000000000\t3ff0000000000000\t1000000\n"
+
+abbrev cappedDays : List ℕ
+cappedDays = bytes "hrp\tcorrelation\tprices\tceilings\n" ++ bytes "AA\tBB\n" ++ bytes "0600000\t1000000\n" ++ bytes "1\t2.0\n" ++ bytes "002\t1.00\n"
+
+-- an `hrp` text of one asset with a ceiling
+abbrev under : List ℕ → List ℕ
+under ceiling = bytes "hrp\tcorrelation\tceilings\nA\t1\t" ++ ceiling ++ (10 ∷ [])
 
 abbrev bits : List Float → List ℕ
 bits [] = []
@@ -100,9 +123,24 @@ jobs =
     ∷ eqb (read (bytes "hrp\tprices\n")) 7
     ∷ eqb (read (bytes "hrp\tnone\tprices\nA\n1\n")) 7
     ∷ eqb (read (bytes "hcaa\tx\tnone\tnone\t-\tprices\nA\n1\n")) 8
+    -- ceilings at the ends of the assets' lines, and on a line of their own
+    ∷ eqb (read capped) 21103
+    ∷ same (bits (cellsIn capped)) (bits (cellsIn three))
+    ∷ same (startsIn capped) (51 ∷ 112 ∷ 172 ∷ [])
+    ∷ same (ceilingsIn capped) (600000 ∷ 500000 ∷ 1000000 ∷ [])
+    ∷ eqb (read cappedDays) 230102
+    ∷ same (bits (cellsIn cappedDays)) (one ∷ two ∷ two ∷ one ∷ [])
+    ∷ same (startsIn cappedDays) (32 ∷ 35 ∷ [])
+    ∷ same (ceilingsIn cappedDays) (600000 ∷ 1000000 ∷ [])
+    ∷ same (ceilingsIn three) []
+    ∷ eqb (read (under (bytes "0"))) 20101
+    ∷ eqb (read (bytes "hrp\tcorrelation\tceilings\n")) 20100
+    -- the line after the names is one of ceilings, and no day
+    ∷ eqb (read (bytes "hrp\tcorrelation\tprices\tceilings\nA\n7\n")) 30101
     -- the buffers' 11 before a malformed text's 15
-    ∷ eqb (told (readOf [] 4095 64)) 11
-    ∷ eqb (told (readOf [] 4096 63)) 11
+    ∷ eqb (told (readOf [] (within 4095 64 64))) 11
+    ∷ eqb (told (readOf [] (within 4096 63 64))) 11
+    ∷ eqb (told (readOf [] (within 4096 64 63))) 11
     -- in order: 15, 8, 7
     ∷ eqb (read (hcaa (bytes "none") (bytes "none") (bytes "x"))) 15
     ∷ eqb (read (hcaa (bytes "none") (bytes "none") (bytes "-"))) 8
@@ -149,8 +187,20 @@ refused =
     -- a covariance's line after `prices` has names, and no days; prices without `prices`
     ∷ eqb (read (bytes "hrp\tcorrelation\tprices\nA\t1\n")) 10102
     ∷ malformed (bytes "hrp\tcorrelation\nA\n1\n")
+    -- a ceiling of 8 digits, above 1,000,000, empty, no digits; on one line none; where the first line says none
+    ∷ malformed (under (bytes "00600000"))
+    ∷ malformed (under (bytes "1000001"))
+    ∷ malformed (under [])
+    ∷ malformed (under (bytes "0.5"))
+    ∷ malformed (bytes "hrp\tcorrelation\tceilings\nA\t1\t0\t7\nB\t0\t1\n")
+    ∷ malformed (bytes "hrp\tcorrelation\nA\t1\t600000\n")
+    -- a line of ceilings with one too few, one too many, missing
+    ∷ malformed (bytes "hrp\tcorrelation\tprices\tceilings\nA\tB\n7\n1\t2\n")
+    ∷ malformed (bytes "hrp\tcorrelation\tprices\tceilings\nA\tB\n7\t8\t9\n1\t2\n")
+    ∷ malformed (bytes "hrp\tcorrelation\tprices\tceilings\nA\tB\n")
+    ∷ malformed (bytes "hrp\tcorrelation\tprices\tceilings\nA\tB\n1\t2.0\n")
     ∷ []
 
 pub figures : all jobs && all refused ≡ true
-unfolding first tab grid same lower lowered isWord onto split firstPiece endOf every digit number isBits isNumeral numeralRead signed bare shaped isBare digitsOf overTens signedBy isDecimal decimalOf isCell cellOf distanceNamed linkageNamed clustersOf pricesAfter isOf isHrp isHcaa isPriced distanceField unknownLines headOf priced rowsIn assets isName isRow isAsset isDay isNames isCovariance isPrices isBlock isJob textCell cellsIn nameOf startOf nameStart startsIn isOver textLines readTable readOutcome jobIn readOf neg div ofInt round units size span climb odd trailingZeros ofFields ofBits toBits
+unfolding first tab grid same lower lowered isWord onto split firstPiece endOf every digit number isBits isNumeral numeralRead signed bare shaped isBare digitsOf overTens signedBy isDecimal decimalOf isCell cellOf distanceNamed linkageNamed clustersOf pricesAfter ceilingsAfter isOf isHrp isHcaa ownFields isPriced isCeiled distanceField unknownLines headOf ceilingOf isCeiling priced ceiled headIn rowsIn assets isName isRow rowFields isAsset isDay isNames isCeilings isCovariance isPrices isBlock isJob textCell cellsIn nameOf startOf nameStart startsIn textCeiling ceilingsIn isOver textLines readTable readOutcome blockIn jobIn readOf neg div ofInt round units size span climb odd trailingZeros ofFields ofBits toBits
 figures = refl

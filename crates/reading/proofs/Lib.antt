@@ -5,6 +5,8 @@ pub mod Line
 pub mod Lines
 pub mod Table
 pub mod Blocks
+pub mod Limits
+pub mod Ceilings
 pub mod Whole
 pub mod Answer
 pub mod Accepted

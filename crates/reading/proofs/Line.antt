@@ -15,8 +15,8 @@ use Rattle.lent.proofs.Laws.{tab-of}
 use Rattle.fields.specs.Split.{split, firstPiece, endOf, all}
 use Rattle.fields.proofs.Pieces.{end-le, last-piece, next-pieces, piece-upto, cut-front}
 use Rattle.names.specs.Names.{isName}
-use Rattle.reading.specs.Reading.{isRow, isAsset, isDay}
-use Rattle.reading.specs.Inner.{cellAt, RowRead, isLine, cellFields, LineRead}
+use Rattle.reading.specs.Reading.{isRow, isDay}
+use Rattle.reading.specs.Inner.{cellAt, RowRead, isNamed, isLine, cellFields, LineRead}
 
 -- where the first field ends, something follows or not
 pub end-within : (l : List ℕ) (e : ℕ) → e ≡ endOf 9 l 0 → e ≤ length l
@@ -44,7 +44,7 @@ module _ (named : Bool) (n : ℕ) (l : List ℕ) (row : List Float) where
     name-cut = rw ends (cut-front 9 l)
 
     asset-line : (t : Bool) → isName (take e l) ≡ t → isLine named n l ≡ (t && isRow n (drop 1 (split 9 l)))
-    unfolding isLine isAsset
+    unfolding isLine isNamed
     asset-line t g =
         let f : isName (firstPiece 9 l) ≡ t = ap isName (sym name-cut) ∙ g in
         rw (is-named, piece-upto 9 l, f)

@@ -16,7 +16,7 @@ use Rattle.lent.proofs.Fill.{rows-start}
 use Rattle.fields.specs.Split.{split, endOf, all}
 use Rattle.fields.proofs.Every.{all-end, all-yes, all-no}
 use Rattle.reading.specs.Reading.{lines, line, rest, startOf}
-use Rattle.reading.specs.Inner.{cellAt, isLine, cellFields, LineRead, linesBefore, lineCell, LinesAsked, LinesRead}
+use Rattle.reading.specs.Inner.{cellAt, isLine, cellFields, LineRead, areNamed, lineCell, LinesAsked, LinesRead}
 use Rattle.reading.proofs.Starts.{piece-within, piece-cut, start-next, rest-none}
 use Rattle.reading.proofs.Front.{Front, front-start, front-end}
 
@@ -40,31 +40,31 @@ part-length d a b w e h =
     rw m (length-take-le w (drop a d) (omega (arith, length-drop a d)))
 
 -- i of the lines with cells are read, and the next begins at `at`
-pub record Lined (text : List ℕ) (rows : ℕ) (named : Bool) (n w : ℕ) (cells₀ : List Float) (starts₀ : List ℕ) (i at : ℕ) (cells : List Float) (starts : List ℕ) : Type 0 where
+pub record Lined (text : List ℕ) (before rows n w : ℕ) (cells₀ : List Float) (starts₀ : List ℕ) (i at : ℕ) (cells : List Float) (starts : List ℕ) : Type 0 where
   pub few : i ≤ rows
-  pub begun : at ≡ startOf 10 text (i + linesBefore named)
+  pub begun : at ≡ startOf 10 text (i + before)
   pub cells-wide : length cells ≡ length cells₀
   pub starts-wide : length starts ≡ length starts₀
-  pub told : all (isLine named n) (drop (linesBefore named) (lines text)) ≡ all (isLine named n) (drop (i + linesBefore named) (lines text))
-  pub filled : cells ≡ over (grid i w (lineCell text named)) cells₀
-  pub front : Front 0 (λ k. startOf 10 text (k + linesBefore named)) i starts
+  pub told : all (isLine (areNamed before) n) (drop (before) (lines text)) ≡ all (isLine (areNamed before) n) (drop (i + before) (lines text))
+  pub filled : cells ≡ over (grid i w (lineCell text before)) cells₀
+  pub front : Front 0 (λ k. startOf 10 text (k + before)) i starts
 
-module _ (text : List ℕ) (from rows : ℕ) (named : Bool) (n w : ℕ) (room places : ℕ) (asked : LinesAsked text from rows named n w room places) where
-  pub lined-start : (cells : List Float) (starts : List ℕ) → Lined text rows named n w cells starts 0 from cells starts
+module _ (text : List ℕ) (from before rows n w room places : ℕ) (asked : LinesAsked text from before rows n w room places) where
+  pub lined-start : (cells : List Float) (starts : List ℕ) → Lined text before rows n w cells starts 0 from cells starts
   lined-start cells starts = record {
     few = omega arith;
-    begun = asked .begun ∙ ap (startOf 10 text) (sym (zero-add (linesBefore named)));
+    begun = asked .begun ∙ ap (startOf 10 text) (sym (zero-add (before)));
     cells-wide = refl;
     starts-wide = refl;
-    told = ap (λ (k : ℕ). all (isLine named n) (drop k (lines text))) (sym (zero-add (linesBefore named)));
-    filled = rows-start w (lineCell text named) cells;
-    front = front-start 0 (λ k. startOf 10 text (k + linesBefore named)) starts;
+    told = ap (λ (k : ℕ). all (isLine (areNamed before) n) (drop k (lines text))) (sym (zero-add (before)));
+    filled = rows-start w (lineCell text before) cells;
+    front = front-start 0 (λ k. startOf 10 text (k + before)) starts;
   }
 
-  lines-are : length (lines text) ≡ linesBefore named + rows
+  lines-are : length (lines text) ≡ before + rows
   lines-are = let p = asked .pieces in length-take-le (length (split 10 text) - 1) (split 10 text) (omega arith) ∙ omega arith
 
-  module _ {cells₀ : List Float} {starts₀ : List ℕ} {i at : ℕ} {cells : List Float} {starts : List ℕ} (l : Lined text rows named n w cells₀ starts₀ i at cells starts) where
+  module _ {cells₀ : List Float} {starts₀ : List ℕ} {i at : ℕ} {cells : List Float} {starts : List ℕ} (l : Lined text before rows n w cells₀ starts₀ i at cells starts) where
     -- row i is in the buffer
     pub row-in : i < rows → room ≡ length cells₀ → i * w + w ≤ length cells
     row-in more sized =
@@ -75,28 +75,28 @@ module _ (text : List ℕ) (from rows : ℕ) (named : Bool) (n w : ℕ) (room pl
         omega arith
 
     module _ (more : i < rows) (e : ℕ) (ends : e ≡ endOf 10 text at) where
-      line-is : i + linesBefore named < length (split 10 text)
+      line-is : i + before < length (split 10 text)
       line-is = let p = asked .pieces in omega arith
 
       pub line-within : (at ≤ e) × (e ≤ length text)
-      line-within = piece-within 10 text (i + linesBefore named) line-is at e (l .begun) ends
+      line-within = piece-within 10 text (i + before) line-is at e (l .begun) ends
 
-      line-cut : take (e - at) (drop at text) ≡ line text (i + linesBefore named)
-      line-cut = piece-cut 10 text (i + linesBefore named) line-is at e (l .begun) ends
+      line-cut : take (e - at) (drop at text) ≡ line text (i + before)
+      line-cut = piece-cut 10 text (i + before) line-is at e (l .begun) ends
 
-      listed : getD (lines text) (i + linesBefore named) [] ≡ line text (i + linesBefore named)
-      listed = let p = asked .pieces in getD-take (length (split 10 text) - 1) (split 10 text) (i + linesBefore named) [] (omega arith)
+      listed : getD (lines text) (i + before) [] ≡ line text (i + before)
+      listed = let p = asked .pieces in getD-take (length (split 10 text) - 1) (split 10 text) (i + before) [] (omega arith)
 
-      module _ (r : Bool) (row : List Float) (was : LineRead named n (take (e - at) (drop at text)) r row) where
-        line-told : (t : Bool) → r ≡ t → isLine named n (getD (lines text) (i + linesBefore named) []) ≡ t
-        line-told t q = ap (isLine named n) (listed ∙ sym line-cut) ∙ sym (was .told) ∙ q
+      module _ (r : Bool) (row : List Float) (was : LineRead (areNamed before) n (take (e - at) (drop at text)) r row) where
+        line-told : (t : Bool) → r ≡ t → isLine (areNamed before) n (getD (lines text) (i + before) []) ≡ t
+        line-told t q = ap (isLine (areNamed before) n) (listed ∙ sym line-cut) ∙ sym (was .told) ∙ q
 
-        in-lines : i + linesBefore named < length (lines text)
+        in-lines : i + before < length (lines text)
         in-lines = omega (arith, lines-are)
 
-        pub lined-bad : (cells′ : List Float) (starts′ : List ℕ) → r ≡ false → LinesRead text rows named n w false cells₀ starts₀ cells′ starts′
+        pub lined-bad : (cells′ : List Float) (starts′ : List ℕ) → r ≡ false → LinesRead text before rows n w false cells₀ starts₀ cells′ starts′
         lined-bad cells′ starts′ q =
-            let f = l .told ∙ all-no (isLine named n) (lines text) (i + linesBefore named) [] in-lines (line-told false q) in
+            let f = l .told ∙ all-no (isLine (areNamed before) n) (lines text) (i + before) [] in-lines (line-told false q) in
             record {
               told = sym (rw f (and-false (eqb (length (rest text)) 0)));
               filled = λ z. absurd (let y : _≡_ {A = ℕ} 0 1 = cc in omega arith);
@@ -104,35 +104,35 @@ module _ (text : List ℕ) (from rows : ℕ) (named : Bool) (n w : ℕ) (room pl
             }
 
         -- the cells of row i
-        row-is : length row ≡ w → r ≡ true → row ≡ tab w (lineCell text named i)
+        row-is : length row ≡ w → r ≡ true → row ≡ tab w (lineCell text before i)
         unfolding lineCell
         row-is sized q =
             was .cells q
-            ∙ ap (λ (k : ℕ). tab k (cellAt (cellFields named (take (e - at) (drop at text))))) sized
-            ∙ ap (λ (t : List ℕ). tab w (cellAt (cellFields named t))) line-cut
-            ∙ tab-ext w (cellAt (cellFields named (line text (i + linesBefore named)))) (lineCell text named i) (λ j h. refl)
+            ∙ ap (λ (k : ℕ). tab k (cellAt (cellFields (areNamed before) (take (e - at) (drop at text))))) sized
+            ∙ ap (λ (t : List ℕ). tab w (cellAt (cellFields (areNamed before) t))) line-cut
+            ∙ tab-ext w (cellAt (cellFields (areNamed before) (line text (i + before)))) (lineCell text before i) (λ j h. refl)
 
         pub lined-step : (cells′ : List Float) (starts′ : List ℕ) (a b : ℕ) → r ≡ true → room ≡ length cells₀ → length row ≡ w → a ≡ i * w → b ≡ a + w
             → length cells′ ≡ length cells → cells′ ≡ take a cells ++ (row ++ drop (b - a) (drop a cells))
-            → length starts′ ≡ length starts → Front 0 (λ k. startOf 10 text (k + linesBefore named)) (i + 1) starts′
-            → Lined text rows named n w cells₀ starts₀ (i + 1) (e + 1) cells′ starts′
+            → length starts′ ≡ length starts → Front 0 (λ k. startOf 10 text (k + before)) (i + 1) starts′
+            → Lined text before rows n w cells₀ starts₀ (i + 1) (e + 1) cells′ starts′
         lined-step cells′ starts′ a b q sized wide p p′ same put same′ front′ =
             let c = l .cells-wide in
-            let g : i + 1 + linesBefore named ≡ i + linesBefore named + 1 = omega arith in
+            let g : i + 1 + before ≡ i + before + 1 = omega arith in
             let o = row-in more sized in
             record {
               few = omega arith;
-              begun = start-next 10 text (i + linesBefore named) line-is at e (l .begun) ends ∙ ap (startOf 10 text) (sym g);
+              begun = start-next 10 text (i + before) line-is at e (l .begun) ends ∙ ap (startOf 10 text) (sym g);
               cells-wide = same ∙ c;
               starts-wide = same′ ∙ l .starts-wide;
               told = l .told
-                  ∙ all-yes (isLine named n) (lines text) (i + linesBefore named) [] in-lines (line-told true q)
-                  ∙ ap (λ (k : ℕ). all (isLine named n) (drop k (lines text))) (sym g);
-              filled = rows-put w (lineCell text named) cells cells′ cells₀ row i a b (l .filled) p p′ (omega arith) put (row-is wide q);
+                  ∙ all-yes (isLine (areNamed before) n) (lines text) (i + before) [] in-lines (line-told true q)
+                  ∙ ap (λ (k : ℕ). all (isLine (areNamed before) n) (drop k (lines text))) (sym g);
+              filled = rows-put w (lineCell text before) cells cells′ cells₀ row i a b (l .filled) p p′ (omega arith) put (row-is wide q);
               front = front′;
             }
 
-    pub lined-end : places ≡ length starts₀ → rows ≤ i → LinesRead text rows named n w (eqb at (length text)) cells₀ starts₀ cells starts
+    pub lined-end : places ≡ length starts₀ → rows ≤ i → LinesRead text before rows n w (eqb at (length text)) cells₀ starts₀ cells starts
     lined-end placed h =
         let f = l .few in
         let p = asked .pieces in
@@ -140,13 +140,13 @@ module _ (text : List ℕ) (from rows : ℕ) (named : Bool) (n w : ℕ) (room pl
         let s = l .starts-wide in
         let q : i ≡ rows = omega arith in
         let k = length (split 10 text) - 1 in
-        let m : i + linesBefore named ≡ k = omega arith in
+        let m : i + before ≡ k = omega arith in
         let b : at ≡ startOf 10 text k = l .begun ∙ ap (startOf 10 text) m in
-        let t = l .told ∙ all-end (isLine named n) (lines text) (i + linesBefore named) (omega (arith, lines-are)) in
+        let t = l .told ∙ all-end (isLine (areNamed before) n) (lines text) (i + before) (omega (arith, lines-are)) in
         record {
           told = sym (rw (t, rest-none 10 text k (omega arith), b) (and-true (eqb (startOf 10 text k) (length text))));
-          filled = λ z. l .filled ∙ ap (λ (j : ℕ). over (grid j w (lineCell text named)) cells₀) q;
+          filled = λ z. l .filled ∙ ap (λ (j : ℕ). over (grid j w (lineCell text before)) cells₀) q;
           placed = λ z.
-              front-end 0 (λ j. startOf 10 text (j + linesBefore named)) i starts (l .front) (omega arith)
-              ∙ ap (λ (j : ℕ). tab j (λ (v : ℕ). startOf 10 text (v + linesBefore named))) s;
+              front-end 0 (λ j. startOf 10 text (j + before)) i starts (l .front) (omega arith)
+              ∙ ap (λ (j : ℕ). tab j (λ (v : ℕ). startOf 10 text (v + before))) s;
         }

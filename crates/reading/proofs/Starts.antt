@@ -44,6 +44,10 @@ module _ (d : ℕ) (s : List ℕ) where
     pub start-in : startOf d s k ≤ length s
     start-in = begins k h .within
 
+    -- the pieces from there on
+    pub pieces-from : split d (drop (startOf d s k) s) ≡ drop k (split d s)
+    pieces-from = begins k h .left
+
     -- piece k is what stands from there to the next d
     pub piece-at : piece d s k ≡ firstPiece d (drop (startOf d s k) s)
     piece-at =

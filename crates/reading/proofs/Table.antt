@@ -23,6 +23,7 @@ use Rattle.heading.specs.declared.Heading.{Heading}
 use Rattle.heading.specs.declared.Heading.the-variants as heading
 use Rattle.heading.proofs.Judged.{headAs, asked-is, asked-kept, asked-none, or-none}
 use Rattle.reading.specs.Reading.{lines, line, rowsIn, assets, isBlock, isJob, isOver, textLines, jobOf, jobIn}
+use Rattle.reading.specs.declared.Block.{Block}
 use Rattle.reading.specs.declared.Reading.the-variants as reading
 
 -- ---- a block that is not over the limits
@@ -41,10 +42,10 @@ head-known : (o : Outcome) (h : Heading) → h ≡ headAs o h → ((r : Refusal)
 head-known outcome.Done h a n = refl
 head-known (outcome.Refused k) h a n = absurd (n k a)
 
-pub job-refused : (n rows : ℕ) (p : Bool) (h : Heading) (k : Refusal) → jobOf n rows p h ≡ reading.Refused k → h ≡ heading.Refused k
-job-refused n rows p (heading.Refused r) k e = let f : r ≡ k = cc in ap heading.Refused f
-job-refused n rows p (heading.Hrp d) k e = absurd (let z : _≡_ {A = ℕ} 0 1 = cc in omega arith)
-job-refused n rows p (heading.Hcaa l d) k e = absurd (let z : _≡_ {A = ℕ} 0 1 = cc in omega arith)
+pub job-refused : (b : Block) (h : Heading) (k : Refusal) → jobOf b h ≡ reading.Refused k → h ≡ heading.Refused k
+job-refused b (heading.Refused r) k e = let f : r ≡ k = cc in ap heading.Refused f
+job-refused b (heading.Hrp d) k e = absurd (let z : _≡_ {A = ℕ} 0 1 = cc in omega arith)
+job-refused b (heading.Hcaa l d) k e = absurd (let z : _≡_ {A = ℕ} 0 1 = cc in omega arith)
 
 -- ---- the table of a text
 
@@ -64,7 +65,7 @@ module _ (text : List ℕ) where
   -- the job asks for what the first line does
   pub asked-as : (k : Refusal) → jobIn text ≡ reading.Refused k → headOf (line text 0) ≡ heading.Refused k
   unfolding jobIn
-  asked-as k e = job-refused _ _ _ (headOf (line text 0)) k e
+  asked-as k e = job-refused _ (headOf (line text 0)) k e
 
   -- ---- of a job's text
 

@@ -7,20 +7,20 @@ use Rattle.refusal.specs.declared.Refusal.{Refusal}
 use Rattle.refusal.specs.declared.Outcome.{Outcome}
 use Rattle.refusal.specs.declared.Outcome.the-variants as outcome
 use Rattle.refusal.proofs.Tables.{done-refused}
-use Rattle.reading.specs.Reading.{readOutcome, jobIn, readAs, readOf, readingTells}
+use Rattle.reading.specs.Reading.{ReadRoom, readOutcome, jobIn, readAs, readOf, readingTells}
 use Rattle.reading.specs.declared.Reading.{Reading}
 use Rattle.reading.specs.declared.Reading.the-variants as reading
 use Rattle.reading.proofs.Accepted.{read-refused}
 
 read-tells : (o : Outcome) (j : Reading) → ((k : Refusal) → o ≡ outcome.Done → j ≡ reading.Refused k → ⊥) → readingTells (readAs o j) ≡ tells o j
 read-tells outcome.Done (reading.Refused k) h = absurd (h k refl refl)
-read-tells outcome.Done (reading.Hrp n rows p d) h = refl
-read-tells outcome.Done (reading.Hcaa n rows p l d) h = refl
+read-tells outcome.Done (reading.Hrp b d) h = refl
+read-tells outcome.Done (reading.Hcaa b l d) h = refl
 read-tells (outcome.Refused r) j h = refl
 
 -- 0 and the job, or the number of what refuses the text
-pub reading-tells : (text : List ℕ) (cells starts : ℕ) → readingTells (readOf text cells starts) ≡ tells (readOutcome text cells starts) (jobIn text)
+pub reading-tells : (text : List ℕ) (room : ReadRoom) → readingTells (readOf text room) ≡ tells (readOutcome text room) (jobIn text)
 unfolding readOf
-reading-tells text cells starts =
-    read-tells (readOutcome text cells starts) (jobIn text)
-    (λ k d e. done-refused k (sym d ∙ read-refused text cells starts k (ap (λ (o : Outcome). readAs o (jobIn text)) d ∙ e)))
+reading-tells text room =
+    read-tells (readOutcome text room) (jobIn text)
+    (λ k d e. done-refused k (sym d ∙ read-refused text room k (ap (λ (o : Outcome). readAs o (jobIn text)) d ∙ e)))

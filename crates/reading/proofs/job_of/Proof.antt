@@ -15,13 +15,13 @@ enum-known-asked-3 : tie.Need-enum-known-asked-3
 enum-known-asked-3 c = search needs
 
 returns : tie.Need-returns
-returns c = ap (jobOf _ _ _) (sym (c .before .asked .given .1))
+returns c = ap (jobOf _) (sym (c .before .asked .given .1))
 
 returns-2 : tie.Need-returns-2
-returns-2 c = ap (jobOf _ _ _) (sym (c .before .asked2 .given .1))
+returns-2 c = ap (jobOf _) (sym (c .before .asked2 .given .1))
 
 returns-3 : tie.Need-returns-3
-returns-3 c = ap (jobOf _ _ _) (sym (c .before .asked3 .given .1))
+returns-3 c = ap (jobOf _) (sym (c .before .asked3 .given .1))
 
 pub job-of-spec : {M : Type 1} → statement M
 job-of-spec =

@@ -7,7 +7,6 @@ use native.Mathlib.Omega.{arith}
 use borrow.Author.Tests.{not-true, not-false}
 use lib.ListN.{length}
 use Rattle.reading.specs.Reading.{startOf}
-use Rattle.reading.specs.Inner.{linesBefore}
 use Rattle.reading.proofs.Front.{Front, front-step}
 use Rattle.reading.proofs.Line.{part-short}
 use Rattle.reading.proofs.Lines.{part-length, Lined, lined-start, row-in, line-within, lined-bad, lined-step, lined-end}
@@ -16,10 +15,10 @@ use Rattle.reading.proofs.read_lines.Statement.{statement}
 use Rattle.reading.proofs.read_lines.Tie as tie
 
 abbrev Inv-loop : tie.InvT-loop
-Inv-loop text from rows named n w cells₀ starts₀ at₀ i₀ cells starts at i = Lined text rows named n w cells₀ starts₀ i at cells starts
+Inv-loop text from before rows n w cells₀ starts₀ at₀ i₀ cells starts at i = Lined text before rows n w cells₀ starts₀ i at cells starts
 
 abbrev μ-loop : tie.MeasureT-loop
-μ-loop text from rows named n w cells₀ starts₀ at₀ i₀ cells starts at i = rows - i
+μ-loop text from before rows n w cells₀ starts₀ at₀ i₀ cells starts at i = rows - i
 
 loop-holds : tie.Need-loop-holds Inv-loop μ-loop
 loop-holds c = lined-start _ _ _ _ _ _ _ _ (c .before .before .before .pre) _ _
@@ -35,7 +34,7 @@ end-of-requires c κs = tt
 
 -- the places after this one was written, or passed by
 came : (c : tie.Joined1 Inv-loop μ-loop)
-    → (length (c .if1 .starts) ≡ length (c .before .before .loop .starts)) × Front 0 (λ k. startOf 10 (c .before .before .before .before .before .before .args .text .now) (k + linesBefore (c .before .before .before .before .before .before .args .named))) (c .before .before .loop .i + 1) (c .if1 .starts)
+    → (length (c .if1 .starts) ≡ length (c .before .before .loop .starts)) × Front 0 (λ k. startOf 10 (c .before .before .before .before .before .before .args .text .now) (k + c .before .before .before .before .before .before .args .before)) (c .before .before .loop .i + 1) (c .if1 .starts)
 came c =
     let w = c .before .before .loop .inv in
     front-step 0 _ _ _ _ _ (w .front) (w .begun)

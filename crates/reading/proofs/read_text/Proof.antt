@@ -1,9 +1,12 @@
 -- `reading::read_text` meets its contract. Assumes nothing.
-use mathlib.Core.Path.{sym, ap, _∙_}
+use mathlib.Core.Path.{refl, sym, ap, _∙_}
+use native.Mathlib.Nat.{le-trans}
 use native.Mathlib.Omega.{arith}
-use Rattle.fields.proofs.Pieces.{end-le, front-length}
+use borrow.Author.Tests.{not-true, not-false}
+use Rattle.fields.proofs.Pieces.{end-le, front-length as front-end}
 use Rattle.heading.specs.Heading.{headOf}
-use Rattle.reading.proofs.Whole.{line-cut, second-begins, priced-is, cut-is, text-lineless, text-blockless, rows-short, text-judged}
+use Rattle.reading.proofs.Blocks.{front-length, held-few}
+use Rattle.reading.proofs.Whole.{line-cut, priced-is, ceiled-is, block-asked, rows-short, ceilings-asked, text-lineless, text-blockless, text-unlimited, text-judged}
 use borrow.Author.Needs.{needs}
 use Rattle.reading.proofs.read_text.Statement.{statement}
 use Rattle.reading.proofs.read_text.Tie as tie
@@ -12,13 +15,13 @@ count-requires : tie.Need-count-requires
 count-requires c κs = tt
 
 returns : tie.Need-returns
-returns c = text-lineless _ _ _ _ _ _ (c .before .count .ensures) (omega (arith, c .if1 .taken))
+returns c = text-lineless _ _ _ _ _ _ _ _ (c .before .count .ensures) (omega (arith, c .if1 .taken))
 
 end-of-requires : tie.Need-end-of-requires
 end-of-requires c κs = tt
 
 slice-aggregate-line : tie.Need-slice-aggregate-line
-slice-aggregate-line c = rw (c .before .end-of .ensures) (front-length 10 _)
+slice-aggregate-line c = rw (c .before .end-of .ensures) (front-end 10 _)
 
 head-requires : tie.Need-head-requires
 head-requires c κs = tt
@@ -26,65 +29,99 @@ head-requires c κs = tt
 is-priced-requires : tie.Need-is-priced-requires
 is-priced-requires c κs = tt
 
-add-read-block : tie.Need-add-read-block
-add-read-block c =
-    let s = c .before .before .before .before .before .before .before .before .before in
-    omega (arith, c .before .before .before .end-of .ensures, end-le 10 (s .args .text .now) 0 (omega arith), s .pre .0)
+is-ceiled-requires : tie.Need-is-ceiled-requires
+is-ceiled-requires c κs = tt
+
+add-from : tie.Need-add-from
+add-from c =
+    let s = c .before .before .before .before .before .before .before .before .before .before .before in
+    omega (arith, c .before .before .before .before .end-of .ensures, end-le 10 (s .args .text .now) 0 (omega arith), s .pre .0)
+
+more-requires : tie.Need-more-requires
+more-requires c κs = search needs
 
 read-block-requires : tie.Need-read-block-requires
 read-block-requires c κs =
-    let p = c .before .before in
-    let e = p .before .before .before in
-    let i = e .before in
-    let k = i .before in
-    let s = k .before .before .before .before in
+    let s = c .before .before .before .before .before .before .before .before .before .before .before .before .before .before in
+    let k = c .before .before .before .before .before .before .before .before .before in
+    let i = c .before .before .before .before .before .before .before .before in
+    let e = c .before .before .before .before .before .before .before in
     let l = line-cut _ _ (e .end-of .ensures) in
-    (s .pre .0, (sym (priced-is _ _ _ (p .is-priced .ensures) l), (i .if1 .left, (cut-is _ _ (k .count .ensures), (second-begins _ _ (e .end-of .ensures), s .pre .1)))))
+    let p = priced-is _ _ _ (c .before .before .before .before .is-priced .ensures) l in
+    let q = ceiled-is _ _ _ (c .before .before .before .is-ceiled .ensures) l in
+    block-asked _ _ _ _ _ _ _ _ (s .pre .0) (e .end-of .ensures) (k .count .ensures) (i .if1 .left) p q (c .before .before .more .ensures) (s .pre .1 .0) (s .pre .1 .1 .0)
 
-enum-known-block : tie.Need-enum-known-block
-enum-known-block c = search needs
+enum-known-found : tie.Need-enum-known-found
+enum-known-found c = search needs
 
 enum-told : tie.Need-enum-told
 enum-told c = search needs
 
 same-length : tie.Need-same-length
-same-length c = c .before .before .before .before .before .before .read-block .kept .1 .1 .1 .1 .0
+same-length c = c .before .before .before .before .before .before .read-block .kept .1 .1 .1 .1 .1 .0
 
 same-length-2 : tie.Need-same-length-2
-same-length-2 c = c .before .before .before .before .before .before .read-block .kept .1 .1 .1 .1 .1 .0
+same-length-2 c = c .before .before .before .before .before .before .read-block .kept .1 .1 .1 .1 .1 .1 .0
 
 returns-2 : tie.Need-returns-2
-returns-2 c = text-blockless _ _ _ _ _ _ (c .before .before .before .before .before .before .read-block .ensures) (c .enum-told .given .1)
+returns-2 c = text-blockless _ _ _ _ _ _ _ _ (c .before .before .before .before .before .before .read-block .ensures) (c .enum-told .given .1)
 
-judged-requires : tie.Need-judged-requires
-judged-requires c κs =
-    let r = c .before .before .before .before .before .before .before in
-    let p = r .before .before .before in
-    let h = p .before in
-    let e = h .before .before in
-    let i = e .before in
-    let k = i .before in
-    let s = k .before .before .before .before in
+held-requires : tie.Need-held-requires
+held-requires c κs = rows-short (c .before .before .before .before .before .before .before .read-block .ensures) _ _ (c .before .found .given .1) (c .before .before .before .before .before .before .before .before .before .before .before .before .before .before .before .before .before .before .before .before .before .before .pre .0)
+
+slice-relend-prefix-read-ceilings : tie.Need-slice-relend-prefix-read-ceilings
+slice-relend-prefix-read-ceilings c = le-trans (held-few _ _ _ (c .held .ensures)) (c .before .before .before .before .before .before .before .before .before .before .before .before .before .before .before .before .before .before .before .before .before .before .before .pre .1 .1 .1)
+
+slice-aggregate-read-ceilings : tie.Need-slice-aggregate-read-ceilings
+slice-aggregate-read-ceilings c = front-length _ _ (le-trans (held-few _ _ _ (c .before .held .ensures)) (c .before .before .before .before .before .before .before .before .before .before .before .before .before .before .before .before .before .before .before .before .before .before .before .before .pre .1 .1 .1))
+
+read-ceilings-requires : tie.Need-read-ceilings-requires
+read-ceilings-requires c κs =
+    let s = c .before .before .before .before .before .before .before .before .before .before .before .before .before .before .before .before .before .before .before .before .before .before .before .before in
+    let k = c .before .before .before .before .before .before .before .before .before .before .before .before .before .before .before .before .before .before .before in
+    let i = c .before .before .before .before .before .before .before .before .before .before .before .before .before .before .before .before .before .before in
+    let e = c .before .before .before .before .before .before .before .before .before .before .before .before .before .before .before .before .before in
     let l = line-cut _ _ (e .end-of .ensures) in
-    rows-short _ _ _ _ _ _ (r .read-block .ensures) _ _ (c .before .block .given .1) (omega (arith, k .count .ensures, i .if1 .left)) _ (h .head .ensures ∙ ap headOf l) _ (priced-is _ _ _ (p .is-priced .ensures) l) (s .pre .0)
+    let p = priced-is _ _ _ (c .before .before .before .before .before .before .before .before .before .before .before .before .before .before .is-priced .ensures) l in
+    let q = ceiled-is _ _ _ (c .before .before .before .before .before .before .before .before .before .before .before .before .before .is-ceiled .ensures) l in
+    let b = block-asked _ _ _ _ _ _ _ _ (s .pre .0) (e .end-of .ensures) (k .count .ensures) (i .if1 .left) p q (c .before .before .before .before .before .before .before .before .before .before .before .before .more .ensures) (s .pre .1 .0) (s .pre .1 .1 .0) in
+    ceilings-asked (c .before .before .before .before .before .before .before .before .before .read-block .ensures) _ _ (c .before .before .before .found .given .1) b _ q _ _ (c .before .held .ensures) (sym (front-length _ _ (le-trans (held-few _ _ _ (c .before .held .ensures)) (c .before .before .before .before .before .before .before .before .before .before .before .before .before .before .before .before .before .before .before .before .before .before .before .before .pre .1 .1 .1))))
 
 same-length-3 : tie.Need-same-length-3
-same-length-3 c = c .before .before .before .before .before .before .before .before .read-block .kept .1 .1 .1 .1 .0
+same-length-3 c = c .before .before .before .before .before .before .before .before .before .before .before .before .before .read-block .kept .1 .1 .1 .1 .1 .0
 
 same-length-4 : tie.Need-same-length-4
-same-length-4 c = c .before .before .before .before .before .before .before .before .read-block .kept .1 .1 .1 .1 .1 .0
+same-length-4 c = c .before .before .before .before .before .before .before .before .before .before .before .before .before .read-block .kept .1 .1 .1 .1 .1 .1 .0
+
+same-length-5 : tie.Need-same-length-5
+same-length-5 c = c .before .before .ceilings .given .1
 
 returns-3 : tie.Need-returns-3
-returns-3 c =
-    let r = c .before .before .before .before .before .before .before .before in
-    let p = r .before .before .before in
-    let h = p .before in
-    let e = h .before .before in
-    let i = e .before in
-    let k = i .before in
-    let s = k .before .before .before .before in
+returns-3 c = text-unlimited _ _ _ _ _ _ _ _ (c .before .before .before .before .before .before .before .before .before .before .before .before .before .read-block .ensures) _ _ (c .before .before .before .before .before .before .before .found .given .1) _ (c .before .before .before .before .before .held .ensures) _ _ (le-trans (held-few _ _ _ (c .before .before .before .before .before .held .ensures)) (c .before .before .before .before .before .before .before .before .before .before .before .before .before .before .before .before .before .before .before .before .before .before .before .before .before .before .before .before .pre .1 .1 .1)) (c .before .before .before .read-ceilings .ensures) (not-true _ (c .if2 .taken))
+
+judged-requires : tie.Need-judged-requires
+judged-requires c κs = rows-short (c .before .before .before .before .before .before .before .before .before .before .before .before .before .read-block .ensures) _ _ (c .before .before .before .before .before .before .before .found .given .1) (c .before .before .before .before .before .before .before .before .before .before .before .before .before .before .before .before .before .before .before .before .before .before .before .before .before .before .before .before .pre .0)
+
+same-length-6 : tie.Need-same-length-6
+same-length-6 c = c .before .before .before .before .before .before .before .before .before .before .before .before .before .before .read-block .kept .1 .1 .1 .1 .1 .0
+
+same-length-7 : tie.Need-same-length-7
+same-length-7 c = c .before .before .before .before .before .before .before .before .before .before .before .before .before .before .read-block .kept .1 .1 .1 .1 .1 .1 .0
+
+same-length-8 : tie.Need-same-length-8
+same-length-8 c = c .before .before .before .ceilings .given .1
+
+returns-4 : tie.Need-returns-4
+returns-4 c =
+    let s = c .before .before .before .before .before .before .before .before .before .before .before .before .before .before .before .before .before .before .before .before .before .before .before .before .before .before .before .before .before in
+    let k = c .before .before .before .before .before .before .before .before .before .before .before .before .before .before .before .before .before .before .before .before .before .before .before .before in
+    let i = c .before .before .before .before .before .before .before .before .before .before .before .before .before .before .before .before .before .before .before .before .before .before .before in
+    let e = c .before .before .before .before .before .before .before .before .before .before .before .before .before .before .before .before .before .before .before .before .before .before in
     let l = line-cut _ _ (e .end-of .ensures) in
-    text-judged _ _ _ _ _ _ (r .read-block .ensures) _ _ (c .before .before .block .given .1) (omega (arith, k .count .ensures, i .if1 .left)) _ (h .head .ensures ∙ ap headOf l) _ (priced-is _ _ _ (p .is-priced .ensures) l) _ (c .judged .ensures)
+    let p = priced-is _ _ _ (c .before .before .before .before .before .before .before .before .before .before .before .before .before .before .before .before .before .before .before .is-priced .ensures) l in
+    let q = ceiled-is _ _ _ (c .before .before .before .before .before .before .before .before .before .before .before .before .before .before .before .before .before .before .is-ceiled .ensures) l in
+    text-judged _ _ _ _ _ _ _ _ (c .before .before .before .before .before .before .before .before .before .before .before .before .before .before .read-block .ensures) _ _ (c .before .before .before .before .before .before .before .before .found .given .1) _ (c .before .before .before .before .before .before .held .ensures) _ _ (le-trans (held-few _ _ _ (c .before .before .before .before .before .before .held .ensures)) (c .before .before .before .before .before .before .before .before .before .before .before .before .before .before .before .before .before .before .before .before .before .before .before .before .before .before .before .before .before .pre .1 .1 .1)) (c .before .before .before .before .read-ceilings .ensures) (not-false _ (c .before .if2 .left)) refl
+    (omega (arith, k .count .ensures, i .if1 .left)) _ (c .before .before .before .before .before .before .before .before .before .before .before .before .before .before .before .before .before .before .before .before .head .ensures ∙ ap headOf l) _ p _ q _ (c .judged .ensures)
 
 pub read-text-spec : {M : Type 1} → statement M
 read-text-spec =
@@ -96,14 +133,25 @@ read-text-spec =
     slice-aggregate-line
     head-requires
     is-priced-requires
-    add-read-block
+    is-ceiled-requires
+    add-from
+    more-requires
     read-block-requires
-    enum-known-block
+    enum-known-found
     enum-told
     same-length
     same-length-2
     returns-2
-    judged-requires
+    held-requires
+    slice-relend-prefix-read-ceilings
+    slice-aggregate-read-ceilings
+    read-ceilings-requires
     same-length-3
     same-length-4
-    returns-3)
+    same-length-5
+    returns-3
+    judged-requires
+    same-length-6
+    same-length-7
+    same-length-8
+    returns-4)
