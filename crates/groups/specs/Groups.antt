@@ -1,4 +1,4 @@
--- Document 02, request 13, "Group lines on the sheet": "a line per node from the root down, left first: depth, size, subtotal of the listing's millionths, tabs between". Definitions only.
+-- Document 02, request 13, "Group lines on the sheet": "a line per node from the root down, left first: depth, size, subtotal of the listing's millionths, tabs between"; request 10: these are after ceilings. Definitions only.
 use Prim.Native.Nat.{ℕ, zero, suc}
 use mathlib.Core.Bool.{Bool, true, false, not, cond}
 use mathlib.Core.List.{List, [], _∷_, _++_, map}
@@ -11,7 +11,7 @@ use Rattle.refusal.specs.declared.Outcome.{Outcome}
 use Rattle.lent.specs.Lent.{most-assets}
 use Rattle.text.specs.Bytes.{bytes}
 use Rattle.fields.specs.Split.{newline, tabulator, all}
-use Rattle.millionths.specs.Millionths.{millionthsLines}
+use Rattle.ceilings.specs.Figures.{areUnlike, figuresLines}
 use Rattle.tree.specs.Rows.{isTree}
 use Rattle.branches.specs.Branch.{branches, depthOf, sizeOf, membersOf, subtotal}
 use Rattle.reading.specs.Reading.{most-bytes}
@@ -68,20 +68,21 @@ groupSheet named name rows parts n = joined (length (nodesDown rows n)) (lineDow
 unfoldable pub leastSheet : Bool → ℕ
 leastSheet named = cond named 32768 8192
 
--- 9 of the text and of the assets, 11; then 3: a weight for each asset; 1: no asset; 14: "merge rows are no tree"; 15
-unfoldable pub groupLines : List ℕ → List ℕ → ℕ → List ℕ → Bool → ℕ → List Line
-unfolding leastSheet isTree all isShort
-groupLines text starts count rows named room =
+-- 9 of the text and of the assets, 11; then 3: a weight for each asset, and a ceiling for each or none; 1: no asset; 14: "merge rows are no tree"; 15
+unfoldable pub groupLines : List ℕ → List ℕ → ℕ → List ℕ → List ℕ → Bool → ℕ → List Line
+unfolding leastSheet areUnlike isTree all isShort
+groupLines text starts count cs rows named room =
     (ltb most-bytes (length text), OverLimit)
     ∷ (ltb most-assets (length starts), OverLimit)
     ∷ (ltb room (leastSheet named), ShortBuffer)
     ∷ (not (eqb count (length starts)), DimensionMismatch)
+    ∷ (areUnlike cs (length starts), DimensionMismatch)
     ∷ (eqb (length starts) 0, NoData)
     ∷ (not (isTree rows (length starts)), NoTree)
     ∷ (not (all (isShort text) starts), MalformedText)
     ∷ []
 
--- then 13 and 18
-unfoldable pub groupOutcome : List ℕ → List ℕ → List Float → List ℕ → Bool → ℕ → Outcome
-unfolding groupLines
-groupOutcome text starts ws rows named room = andThen (first (groupLines text starts (length ws) rows named room)) (first (millionthsLines ws))
+-- then 13, 18 and 20
+unfoldable pub groupOutcome : List ℕ → List ℕ → List Float → List ℕ → List ℕ → Bool → ℕ → Outcome
+unfolding groupLines figuresLines
+groupOutcome text starts ws cs rows named room = andThen (first (groupLines text starts (length ws) cs rows named room)) (first (figuresLines ws cs))

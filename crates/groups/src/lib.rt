@@ -9,7 +9,7 @@ ghost use Prim.Native.Nat.{_+_, _-_, _*_, _≤_};
 ghost use lib.ListN.{length};
 ghost use Rattle.refusal.specs.Table.{first};
 ghost use Rattle.lent.specs.Grid.{tab, over};
-ghost use Rattle.millionths.specs.Millionths.{millionthsIn};
+ghost use Rattle.ceilings.specs.Figures.{figuresIn};
 ghost use Rattle.branches.specs.Branch.{subtotal};
 ghost use Rattle.branches.specs.Summary.{partOf};
 ghost use Rattle.writing.specs.Writing.{joined, Wrote};
@@ -223,11 +223,12 @@ fn judge(
     text: &[u8],
     starts: &[usize],
     weights: usize,
+    ceilings: &[usize],
     rows: &[usize],
     named: bool,
     room: usize,
 ) -> Outcome
-    ensures { λ r. ⌜ r ≡ first (groupLines (now (text .entry)) (now (starts .entry)) weights (now (rows .entry)) named room) ⌝ }
+    ensures { λ r. ⌜ r ≡ first (groupLines (now (text .entry)) (now (starts .entry)) weights (now (ceilings .entry)) (now (rows .entry)) named room) ⌝ }
 {
     let n = starts.len();
     let o = refusal::refuse(
@@ -237,29 +238,43 @@ fn judge(
     );
     let o = refusal::refuse(!tree::is_tree(rows, n), Refusal::NoTree, o);
     let o = refusal::refuse(n == 0, Refusal::NoData, o);
+    let o = refusal::refuse(
+        ceilings::are_unlike(ceilings, n),
+        Refusal::DimensionMismatch,
+        o,
+    );
     let o = refusal::refuse(weights != n, Refusal::DimensionMismatch, o);
     let o = refusal::refuse(room < least_sheet(named), Refusal::ShortBuffer, o);
     let o = refusal::refuse(lent::MOST_ASSETS < n, Refusal::OverLimit, o);
     refusal::refuse(reading::MOST_BYTES < text.len(), Refusal::OverLimit, o)
 }
 
-// The sheet of the assets whose names begin at `starts`, by their weights and the rows of their tree, at the front of out. A refused sheet leaves zeros.
+// The sheet of the assets whose names begin at `starts`, by their weights, their ceilings or none, and the rows of their tree, at the front of out. A refused sheet leaves zeros.
 pub fn group_sheet(
     text: &[u8],
     starts: &[usize],
     weights: &[f64],
+    ceilings: &[usize],
     rows: &[usize],
     named: bool,
     out: &mut [u8],
 ) -> Listed
     ensures { λ r. ⌜ ListingMade
-        (groupOutcome (now (text .entry)) (now (starts .entry)) (now (weights .entry)) (now (rows .entry)) named (length (now (out .entry))))
-        (groupSheet named (nameIn (now (text .entry)) (now (starts .entry))) (now (rows .entry)) (millionthsIn (now (weights .entry))) (length (now (starts .entry))))
+        (groupOutcome (now (text .entry)) (now (starts .entry)) (now (weights .entry)) (now (ceilings .entry)) (now (rows .entry)) named (length (now (out .entry))))
+        (groupSheet named (nameIn (now (text .entry)) (now (starts .entry))) (now (rows .entry)) (figuresIn (now (weights .entry)) (now (ceilings .entry))) (length (now (starts .entry))))
         (length (now (out .entry))) r (now (out .exit)) ⌝ }
 {
     let mut parts = [0usize; 64];
-    let parted = millionths::weights_in_millionths(weights, &mut parts);
-    let judged = judge(text, starts, weights.len(), rows, named, out.len());
+    let parted = ceilings::figures(weights, ceilings, &mut parts);
+    let judged = judge(
+        text,
+        starts,
+        weights.len(),
+        ceilings,
+        rows,
+        named,
+        out.len(),
+    );
     let said = refusal::and_then(judged, parted);
     lent::clear_bytes_from(out, 0);
     match said {

@@ -1,8 +1,8 @@
 -- How the two calls end that write into a lent buffer. Assumes nothing.
-use Prim.Native.Nat.{ℕ, _+_, _-_, _≤_, _<_}
+use Prim.Native.Nat.{ℕ, _+_, _≤_, _<_}
 use mathlib.Core.Path.{_≡_, refl, sym, ap, _∙_}
-use mathlib.Core.Bool.{true}
-use mathlib.Core.List.{List, [], _++_}
+use mathlib.Core.Bool.{true, false}
+use mathlib.Core.List.{List, []}
 use native.Mathlib.Omega.{arith}
 use borrow.Author.Tests.{ltb-false, lt-ltb, le-ltb, leb-true, eqb-true, not-false}
 use lib.ListN.{length, getD, length-append, List·getD-append}
@@ -10,19 +10,18 @@ use lib.Ieee.{Float}
 use Rattle.refusal.specs.Table.{first, andThen}
 use Rattle.refusal.specs.Telling.{accepts, tells}
 use Rattle.refusal.specs.declared.Refusal.{Refusal}
-use Rattle.refusal.specs.declared.Refusal.the-variants.{OverLimit, ShortBuffer}
+use Rattle.refusal.specs.declared.Refusal.the-variants.{ShortBuffer}
 use Rattle.refusal.specs.declared.Outcome.{Outcome}
 use Rattle.refusal.specs.declared.Outcome.the-variants.{Done, Refused}
 use Rattle.refusal.proofs.Tables.{none, table-hit, table-pass, table-end, both-done}
 use Rattle.lent.specs.Grid.{noughts, over}
-use Rattle.lent.specs.Lent.{laid}
-use Rattle.lent.proofs.Laws.{length-tab}
 use Rattle.lent.proofs.Sizes.{laid-done, laid-refused}
 use Rattle.fields.specs.Split.{all}
 use Rattle.fields.proofs.Every.{all-at}
 use Rattle.writing.specs.Writing.{decimal, Wrote}
 use Rattle.writing.proofs.Writing.{at-front}
-use Rattle.millionths.specs.Millionths.{millionthsAt, millionthsIn, millionthsLines, millionthsTable, millionthsOutcome, millionthsLaid}
+use Rattle.ceilings.specs.Figures.{areUnlike, figuresIn, figuresLines, figuresOutcome, figuresLaid}
+use Rattle.ceilings.proofs.Weighed.{figures-length, figures-said, figures-laid}
 use Rattle.tree.specs.Rows.{isOrder}
 use Rattle.tree.proofs.Rows.{is-order}
 use Rattle.listing.specs.Listing.{refusalLine, listedAs, ListingMade, nameIn, isShort, sheetLines, sheetOutcome, refusalOutcome}
@@ -51,16 +50,13 @@ made-refused o s room out k e z = record {
   told = sym (ap (λ (x : Outcome). tells x (length s)) e);
 }
 
--- ---- 13 and 18, by themselves and after what was judged before them
+-- ---- 13, 18 and 20, after what was judged before them
 
-parts-said : (ws : List Float) → length ws ≤ 64 → millionthsOutcome ws 64 ≡ first (millionthsLines ws)
-unfolding millionthsOutcome millionthsTable
-parts-said ws h = table-pass _ OverLimit _ (le-ltb 64 (length ws) h) ∙ table-pass _ ShortBuffer _ (le-ltb 64 (length ws) h)
-
-pub then-parts : (ws : List Float) (o : Outcome) → (o ≡ Done → length ws ≤ 64) → andThen o (millionthsOutcome ws 64) ≡ andThen o (first (millionthsLines ws))
+pub then-parts : (ws : List Float) (cs : List ℕ) (o : Outcome) → (o ≡ Done → (length ws ≤ 64) × (areUnlike cs (length ws) ≡ false))
+    → andThen o (figuresOutcome ws cs 64) ≡ andThen o (first (figuresLines ws cs))
 unfolding andThen
-then-parts ws Done h = parts-said ws (h refl)
-then-parts ws (Refused k) h = refl
+then-parts ws cs Done h = let p = h refl in figures-said ws cs 64 (record { few = p .0; roomy = p .0; like = p .1 })
+then-parts ws cs (Refused k) h = refl
 
 -- ---- names of at most 16 bytes
 
@@ -70,57 +66,62 @@ names-short text starts few short = record { few = few; short = λ i h. leb-true
 
 -- ---- the listing: what its lines find right
 
-record Right (text starts : List ℕ) (count : ℕ) (order : List ℕ) (room : ℕ) : Type 0 where
+record Right (text starts : List ℕ) (count : ℕ) (cs order : List ℕ) (room : ℕ) : Type 0 where
   few : length starts ≤ 64
   roomy : 8192 ≤ room
   weighed : count ≡ length starts
+  limited : areUnlike cs (length starts) ≡ false
   ordered : isOrder order (length starts) ≡ true
   short : all (isShort text) starts ≡ true
 
-right : (text starts : List ℕ) (count : ℕ) (order : List ℕ) (room : ℕ) → first (sheetLines text starts count order room) ≡ Done → Right text starts count order room
+right : (text starts : List ℕ) (count : ℕ) (cs order : List ℕ) (room : ℕ) → first (sheetLines text starts count cs order room) ≡ Done → Right text starts count cs order room
 unfolding sheetLines
-right text starts count order room e =
+right text starts count cs order room e =
     let a = none _ e in
     record {
       few = ltb-false 64 (length starts) (a .1 .0);
       roomy = ltb-false room 8192 (a .1 .1 .0);
       weighed = eqb-true count (length starts) (not-false _ (a .1 .1 .1 .0));
-      ordered = not-false _ (a .1 .1 .1 .1 .0);
-      short = not-false _ (a .1 .1 .1 .1 .1 .0);
+      limited = a .1 .1 .1 .1 .0;
+      ordered = not-false _ (a .1 .1 .1 .1 .1 .0);
+      short = not-false _ (a .1 .1 .1 .1 .1 .1 .0);
     }
 
-module _ (text starts : List ℕ) (ws : List Float) (order : List ℕ) (room : ℕ) (judged ranged said : Outcome)
-    (j : judged ≡ first (sheetLines text starts (length ws) order room)) (m : ranged ≡ millionthsOutcome ws 64) (t : said ≡ andThen judged ranged) where
-  pub sheet-said : said ≡ sheetOutcome text starts ws order room
+module _ (text starts : List ℕ) (ws : List Float) (cs order : List ℕ) (room : ℕ) (judged ranged said : Outcome)
+    (j : judged ≡ first (sheetLines text starts (length ws) cs order room)) (m : ranged ≡ figuresOutcome ws cs 64) (t : said ≡ andThen judged ranged) where
+  pub sheet-said : said ≡ sheetOutcome text starts ws cs order room
   unfolding sheetOutcome
-  sheet-said = t ∙ rw (j, m) (then-parts ws (first (sheetLines text starts (length ws) order room)) (λ e. let r = right text starts (length ws) order room e in omega (arith, r .few, r .weighed)))
+  sheet-said =
+      t
+      ∙ rw (j, m)
+      (then-parts ws cs (first (sheetLines text starts (length ws) cs order room))
+      (λ e.
+      let r = right text starts (length ws) cs order room e in
+      (omega (arith, r .few, r .weighed), ap (areUnlike cs) (r .weighed) ∙ r .limited)))
 
   module _ (d : said ≡ Done) where
     both : (judged ≡ Done) × (ranged ≡ Done)
     both = both-done judged ranged (sym t ∙ d)
 
-    found : Right text starts (length ws) order room
-    found = right text starts (length ws) order room (sym j ∙ both .0)
+    found : Right text starts (length ws) cs order room
+    found = right text starts (length ws) cs order room (sym j ∙ both .0)
 
     named : Named text starts
     named = names-short text starts (found .few) (found .short)
 
-    parted : (parts : List ℕ) → length parts ≡ 64 → parts ≡ millionthsLaid ws 64 → Parted ws parts
-    unfolding millionthsLaid millionthsIn laid
-    parted parts l p =
-        let n = length-tab (length ws) (millionthsAt ws) in
-        let e : parts ≡ millionthsIn ws ++ noughts (64 - length (millionthsIn ws)) = p ∙ ap (λ (x : Outcome). laid 0 x 64 (millionthsIn ws)) (sym m ∙ both .1) in
-        record {
-          wide = omega (arith, found .few, found .weighed);
-          are = λ i h. ap (λ (x : List ℕ). getD x i 0) e ∙ List·getD-append (millionthsIn ws) _ 0 i (omega (arith, n));
-        }
+    parted : (parts : List ℕ) → length parts ≡ 64 → parts ≡ figuresLaid ws cs 64 → Parted ws cs parts
+    parted parts l p = record {
+      wide = omega (arith, found .few, found .weighed);
+      are = λ i h. ap (λ (x : List ℕ). getD x i 0) (p ∙ figures-laid ws cs 64 (sym m ∙ both .1)) ∙ List·getD-append (figuresIn ws cs) _ 0 i (omega (arith, figures-length ws cs));
+    }
 
-    pub listable : (parts : List ℕ) → length parts ≡ 64 → parts ≡ millionthsLaid ws 64 → (room′ : ℕ) → room′ ≡ room → Listable text starts ws parts order room′
+    pub listable : (parts : List ℕ) → length parts ≡ 64 → parts ≡ figuresLaid ws cs 64 → (room′ : ℕ) → room′ ≡ room → Listable text starts ws cs parts order room′
     listable parts l p room′ e =
         let o = is-order order (length starts) (found .ordered) in
         record {
           named = named;
           weighed = found .weighed;
+          limited = found .limited;
           parted = parted parts l p;
           few = omega (arith, o .size, found .few);
           low = λ k h. o .low k (omega (arith, o .size));

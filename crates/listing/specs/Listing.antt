@@ -1,7 +1,7 @@
--- Document 01, "Millionths and the job program": the listing of an answer, and the line of a refusal. Definitions only.
+-- Document 01, "Millionths and the job program": the listing of an answer, and the line of a refusal. Document 02, request 10: ceilings. Definitions only.
 use Prim.Native.Nat.{ℕ, _≤_}
 use mathlib.Core.Path.{_≡_}
-use mathlib.Core.Bool.{Bool, not}
+use mathlib.Core.Bool.{Bool, not, cond}
 use mathlib.Core.List.{List, [], _∷_, _++_}
 use lib.Dec.{leb, ltb, eqb}
 use lib.ListN.{length, getD}
@@ -15,30 +15,53 @@ use Rattle.lent.specs.Lent.{most-assets, laid}
 use Rattle.text.specs.Bytes.{bytes}
 use Rattle.fields.specs.Split.{newline, tabulator, all}
 use Rattle.writing.specs.Writing.{decimal, hexOf, joined}
-use Rattle.millionths.specs.Millionths.{millionthsIn, millionthsLines}
+use Rattle.ceilings.specs.Figures.{areGiven, areUnlike, figuresIn, figuresLines}
 use Rattle.tree.specs.Rows.{isOrder}
 use Rattle.names.specs.Names.{nameFrom}
 use Rattle.reading.specs.Reading.{most-bytes}
+use Rattle.listing.specs.declared.Ceiling.{Ceiling}
+use Rattle.listing.specs.declared.Ceiling.the-variants as ceiling
+use Rattle.listing.specs.declared.Holding.{Holding}
 use Rattle.listing.specs.declared.Listed.{Listed}
 use Rattle.listing.specs.declared.Listed.the-variants as listed
 
--- "prints name, weight bits, millionths": "An answer that is NaN has the bits 7ff8000000000000"
-unfoldable pub assetLine : List ℕ → Float → ℕ → List ℕ
-unfolding decimal hexOf
-assetLine name w m = name ++ (tabulator ∷ []) ++ hexOf (toBits binary64 w) ++ (tabulator ∷ []) ++ decimal m ++ (newline ∷ [])
+-- ---- "An asset's record": its name, and its holding: weight, millionths, and "a ceiling in millionths" where ceilings are given. Said once for listing, sheet and report
+
+-- asset i's ceiling
+unfoldable pub ceilingAt : List ℕ → ℕ → Ceiling
+ceilingAt cs i = cond (areGiven cs) (ceiling.At (getD cs i 0)) ceiling.Absent
+
+-- asset i's holding, by the weights and the ceilings
+unfoldable pub holdingAt : List Float → List ℕ → ℕ → Holding
+unfolding figuresIn ceilingAt
+holdingAt ws cs i = record { weight = getD ws i nan; millionths = getD (figuresIn ws cs) i 0; ceiling = ceilingAt cs i }
+
+-- "the listing, where ceilings are given, shows it as a fourth field"
+unfoldable pub ceilingField : Ceiling → List ℕ
+unfolding decimal
+ceilingField ceiling.Absent = []
+ceilingField (ceiling.At c) = (tabulator ∷ []) ++ decimal c
+
+-- "prints name, weight bits, millionths": "An answer that is NaN has the bits 7ff8000000000000". "Weight bits are those before ceilings"
+unfoldable pub holdingLine : List ℕ → Holding → List ℕ
+unfolding decimal hexOf ceilingField
+holdingLine name h =
+    name ++ (tabulator ∷ []) ++ hexOf (toBits binary64 (h .weight)) ++ (tabulator ∷ []) ++ decimal (h .millionths) ++ ceilingField (h .ceiling) ++ (newline ∷ [])
+
+-- ---- the listing
 
 -- a line for each weight
-unfoldable pub lineOf : (ℕ → List ℕ) → List Float → ℕ → List ℕ
-unfolding assetLine
-lineOf name ws i = assetLine (name i) (getD ws i nan) (getD (millionthsIn ws) i 0)
+unfoldable pub lineOf : (ℕ → List ℕ) → List Float → List ℕ → ℕ → List ℕ
+unfolding holdingLine holdingAt
+lineOf name ws cs i = holdingLine (name i) (holdingAt ws cs i)
 
 -- "then the leaf order"
 unfoldable pub ordered : (ℕ → List ℕ) → List ℕ → ℕ → List ℕ
 ordered name order k = (tabulator ∷ []) ++ name (getD order k 0)
 
-unfoldable pub listing : (ℕ → List ℕ) → List Float → List ℕ → List ℕ
+unfoldable pub listing : (ℕ → List ℕ) → List Float → List ℕ → List ℕ → List ℕ
 unfolding joined lineOf ordered
-listing name ws order = joined (length ws) (lineOf name ws) ++ (bytes "order" ++ joined (length order) (ordered name order) ++ (newline ∷ []))
+listing name ws cs order = joined (length ws) (lineOf name ws cs) ++ (bytes "order" ++ joined (length order) (ordered name order) ++ (newline ∷ []))
 
 -- "a refusal prints `refused`, tab, number"
 unfoldable pub refusalLine : ℕ → List ℕ
@@ -82,22 +105,23 @@ isShort text start = leb (length (nameFrom text start)) 16
 abbrev pub least-listing : ℕ
 least-listing = 8192
 
--- 9 of the text and of the assets, 11; then 3: a weight for each asset; 14: "a given leaf order isn't each asset once"; 15
-unfoldable pub sheetLines : List ℕ → List ℕ → ℕ → List ℕ → ℕ → List Line
-unfolding isOrder all isShort
-sheetLines text starts count order room =
+-- 9 of the text and of the assets, 11; then 3: a weight for each asset, and a ceiling for each or none; 14: "a given leaf order isn't each asset once"; 15
+unfoldable pub sheetLines : List ℕ → List ℕ → ℕ → List ℕ → List ℕ → ℕ → List Line
+unfolding areUnlike isOrder all isShort
+sheetLines text starts count cs order room =
     (ltb most-bytes (length text), OverLimit)
     ∷ (ltb most-assets (length starts), OverLimit)
     ∷ (ltb room least-listing, ShortBuffer)
     ∷ (not (eqb count (length starts)), DimensionMismatch)
+    ∷ (areUnlike cs (length starts), DimensionMismatch)
     ∷ (not (isOrder order (length starts)), NoTree)
     ∷ (not (all (isShort text) starts), MalformedText)
     ∷ []
 
--- then 13 and 18
-unfoldable pub sheetOutcome : List ℕ → List ℕ → List Float → List ℕ → ℕ → Outcome
-unfolding sheetLines
-sheetOutcome text starts ws order room = andThen (first (sheetLines text starts (length ws) order room)) (first (millionthsLines ws))
+-- then 13, 18 and 20
+unfoldable pub sheetOutcome : List ℕ → List ℕ → List Float → List ℕ → List ℕ → ℕ → Outcome
+unfolding sheetLines figuresLines
+sheetOutcome text starts ws cs order room = andThen (first (sheetLines text starts (length ws) cs order room)) (first (figuresLines ws cs))
 
 -- ---- the line of a refusal of a number, into a buffer of `room` bytes: 11 where it does not fit
 

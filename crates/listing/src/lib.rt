@@ -3,12 +3,14 @@
 use refusal::Outcome;
 use refusal::Refusal;
 ghost use mathlib.Core.Path.{_≡_};
+ghost use mathlib.Core.Bool.{false};
 ghost use Prim.Native.Nat.{ℕ, _+_, _*_, _≤_, _<_};
 ghost use lib.ListN.{length, getD};
 ghost use Rattle.refusal.specs.Table.{first};
 ghost use Rattle.fields.specs.Split.{all};
-ghost use Rattle.writing.specs.Writing.{joined, Wrote};
-ghost use Rattle.listing.specs.Listing.{assetLine, lineOf, ordered, listing, refusalLine};
+ghost use Rattle.writing.specs.Writing.{joined, Wrote, Fitting};
+ghost use Rattle.ceilings.specs.Figures.{areUnlike};
+ghost use Rattle.listing.specs.Listing.{ceilingAt, ceilingField, holdingLine, lineOf, ordered, listing, refusalLine};
 ghost use Rattle.listing.specs.Listing.{bytesIn, ListingMade, nameIn, isShort, sheetLines, sheetOutcome, refusalOutcome};
 ghost use Rattle.listing.specs.Inner.{Named, Parted, Listable};
 
@@ -31,18 +33,57 @@ pub fn bytes(listed: Listed) -> usize
     }
 }
 
-// An asset's line: name, weight bits, millionths.
-fn put_asset(out: &mut [u8], at: usize, name: &[u8], w: f64, m: u64) -> usize
+// A ceiling, where the assets have them.
+pub enum Ceiling {
+    Absent,
+    At(usize),
+}
+
+// What an asset's record has beside its name.
+pub struct Holding {
+    pub weight: f64,
+    pub millionths: usize,
+    pub ceiling: Ceiling,
+}
+
+// A tab and a ceiling, where there is one.
+fn put_ceiling(out: &mut [u8], at: usize, ceiling: Ceiling) -> usize
+    ensures { λ r. ⌜ Fitting (now (out .entry)) at (ceilingField ceiling) (now (out .exit)) r ⌝ }
+{
+    match ceiling {
+        Ceiling::Absent => at,
+        Ceiling::At(c) => {
+            let tabbed = writing::put_byte(out, at, b'\t');
+            writing::put_decimal(out, tabbed, c as u64)
+        }
+    }
+}
+
+// An asset's line: name, weight bits, millionths, and its ceiling.
+fn put_asset(out: &mut [u8], at: usize, name: &[u8], holding: Holding) -> usize
     requires { ⌜ length (now name) ≤ 16 ⌝ }
-    requires { ⌜ at + 55 ≤ length (now out) ⌝ }
-    ensures { λ r. ⌜ Wrote (now (out .entry)) at (assetLine (now (name .entry)) w m) (now (out .exit)) r ⌝ }
+    requires { ⌜ at + 76 ≤ length (now out) ⌝ }
+    ensures { λ r. ⌜ Wrote (now (out .entry)) at (holdingLine (now (name .entry)) holding) (now (out .exit)) r ⌝ }
 {
     let named = writing::put_bytes(out, at, name);
     let tabbed = writing::put_byte(out, named, b'\t');
-    let weighed = writing::put_hex(out, tabbed, arithmetic::to_bits(w));
+    let weighed = writing::put_hex(out, tabbed, arithmetic::to_bits(holding.weight));
     let parted = writing::put_byte(out, weighed, b'\t');
-    let counted = writing::put_decimal(out, parted, m);
-    writing::put_byte(out, counted, b'\n')
+    let counted = writing::put_decimal(out, parted, holding.millionths as u64);
+    let ceiling = holding.ceiling;
+    let limited = put_ceiling(out, counted, ceiling);
+    writing::put_byte(out, limited, b'\n')
+}
+
+// Asset i's ceiling.
+fn ceiling_at(ceilings: &[usize], i: usize) -> Ceiling
+    requires { ⌜ (0 < length (now ceilings) → i < length (now ceilings)) ⌝ }
+    ensures { λ r. ⌜ r ≡ ceilingAt (now (ceilings .entry)) i ⌝ }
+{
+    if ceilings.len() == 0 {
+        return Ceiling::Absent;
+    }
+    Ceiling::At(ceilings[i])
 }
 
 // A line for each weight, from the start of the buffer on.
@@ -50,25 +91,26 @@ fn put_assets(
     text: &[u8],
     starts: &[usize],
     weights: &[f64],
+    ceilings: &[usize],
     parts: &[usize],
     out: &mut [u8],
 ) -> usize
     requires { ⌜ Named (now text) (now starts) ⌝ }
     requires { ⌜ length (now weights) ≡ length (now starts) ⌝ }
-    requires { ⌜ Parted (now weights) (now parts) ⌝ }
+    requires { ⌜ areUnlike (now ceilings) (length (now starts)) ≡ false ⌝ }
+    requires { ⌜ Parted (now weights) (now ceilings) (now parts) ⌝ }
     requires { ⌜ 8192 ≤ length (now out) ⌝ }
-    ensures { λ r. ⌜ Wrote (now (out .entry)) 0 (joined (length (now (weights .entry))) (lineOf (nameIn (now (text .entry)) (now (starts .entry))) (now (weights .entry)))) (now (out .exit)) r ⌝ }
+    ensures { λ r. ⌜ Wrote (now (out .entry)) 0 (joined (length (now (weights .entry))) (lineOf (nameIn (now (text .entry)) (now (starts .entry))) (now (weights .entry)) (now (ceilings .entry)))) (now (out .exit)) r ⌝ }
 {
     let mut at = 0;
     let mut i = 0;
     while i < weights.len() {
-        at = put_asset(
-            out,
-            at,
-            names::name(text, starts[i]),
-            weights[i],
-            parts[i] as u64,
-        );
+        let holding = Holding {
+            weight: weights[i],
+            millionths: parts[i],
+            ceiling: ceiling_at(ceilings, i),
+        };
+        at = put_asset(out, at, names::name(text, starts[i]), holding);
         i += 1;
     }
     at
@@ -104,14 +146,15 @@ fn put_listing(
     text: &[u8],
     starts: &[usize],
     weights: &[f64],
+    ceilings: &[usize],
     parts: &[usize],
     order: &[usize],
     out: &mut [u8],
 ) -> usize
-    requires { ⌜ Listable (now text) (now starts) (now weights) (now parts) (now order) (length (now out)) ⌝ }
-    ensures { λ r. ⌜ Wrote (now (out .entry)) 0 (listing (nameIn (now (text .entry)) (now (starts .entry))) (now (weights .entry)) (now (order .entry))) (now (out .exit)) r ⌝ }
+    requires { ⌜ Listable (now text) (now starts) (now weights) (now ceilings) (now parts) (now order) (length (now out)) ⌝ }
+    ensures { λ r. ⌜ Wrote (now (out .entry)) 0 (listing (nameIn (now (text .entry)) (now (starts .entry))) (now (weights .entry)) (now (ceilings .entry)) (now (order .entry))) (now (out .exit)) r ⌝ }
 {
-    let listed = put_assets(text, starts, weights, parts, out);
+    let listed = put_assets(text, starts, weights, ceilings, parts, out);
     let headed = writing::put_bytes(out, listed, b"order");
     let named = put_order(text, starts, order, out, headed);
     writing::put_byte(out, named, b'\n')
@@ -132,8 +175,15 @@ pub fn all_short(text: &[u8], starts: &[usize]) -> bool
 }
 
 // 9, 11, 3, 14 and 15 of a listing.
-fn judge(text: &[u8], starts: &[usize], weights: usize, order: &[usize], room: usize) -> Outcome
-    ensures { λ r. ⌜ r ≡ first (sheetLines (now (text .entry)) (now (starts .entry)) weights (now (order .entry)) room) ⌝ }
+fn judge(
+    text: &[u8],
+    starts: &[usize],
+    weights: usize,
+    ceilings: &[usize],
+    order: &[usize],
+    room: usize,
+) -> Outcome
+    ensures { λ r. ⌜ r ≡ first (sheetLines (now (text .entry)) (now (starts .entry)) weights (now (ceilings .entry)) (now (order .entry)) room) ⌝ }
 {
     let n = starts.len();
     let o = refusal::refuse(
@@ -142,32 +192,46 @@ fn judge(text: &[u8], starts: &[usize], weights: usize, order: &[usize], room: u
         Outcome::Done,
     );
     let o = refusal::refuse(!tree::is_order(order, n), Refusal::NoTree, o);
+    let o = refusal::refuse(
+        ceilings::are_unlike(ceilings, n),
+        Refusal::DimensionMismatch,
+        o,
+    );
     let o = refusal::refuse(weights != n, Refusal::DimensionMismatch, o);
     let o = refusal::refuse(room < LEAST_LISTING, Refusal::ShortBuffer, o);
     let o = refusal::refuse(lent::MOST_ASSETS < n, Refusal::OverLimit, o);
     refusal::refuse(reading::MOST_BYTES < text.len(), Refusal::OverLimit, o)
 }
 
-// The listing of the assets whose lines begin at `starts`, at the front of out. A refused listing leaves zeros.
+// The listing of the assets whose names begin at `starts`, with ceilings or with none, at the front of out. A refused listing leaves zeros.
 pub fn sheet(
     text: &[u8],
     starts: &[usize],
     weights: &[f64],
+    ceilings: &[usize],
     order: &[usize],
     out: &mut [u8],
 ) -> Listed
     ensures { λ r. ⌜ ListingMade
-        (sheetOutcome (now (text .entry)) (now (starts .entry)) (now (weights .entry)) (now (order .entry)) (length (now (out .entry))))
-        (listing (nameIn (now (text .entry)) (now (starts .entry))) (now (weights .entry)) (now (order .entry)))
+        (sheetOutcome (now (text .entry)) (now (starts .entry)) (now (weights .entry)) (now (ceilings .entry)) (now (order .entry)) (length (now (out .entry))))
+        (listing (nameIn (now (text .entry)) (now (starts .entry))) (now (weights .entry)) (now (ceilings .entry)) (now (order .entry)))
         (length (now (out .entry))) r (now (out .exit)) ⌝ }
 {
     let mut parts = [0usize; 64];
-    let parted = millionths::weights_in_millionths(weights, &mut parts);
-    let judged = judge(text, starts, weights.len(), order, out.len());
+    let parted = ceilings::figures(weights, ceilings, &mut parts);
+    let judged = judge(text, starts, weights.len(), ceilings, order, out.len());
     let said = refusal::and_then(judged, parted);
     lent::clear_bytes_from(out, 0);
     match said {
-        Outcome::Done => Listed::Sheet(put_listing(text, starts, weights, &parts, order, out)),
+        Outcome::Done => Listed::Sheet(put_listing(
+            text,
+            starts,
+            weights,
+            ceilings,
+            &parts,
+            order,
+            out,
+        )),
         Outcome::Refused(r) => Listed::Refused(r),
     }
 }

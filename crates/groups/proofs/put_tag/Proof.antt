@@ -1,6 +1,6 @@
 -- `groups::put_tag` meets its contract. Assumes nothing.
 use native.Mathlib.Omega.{arith}
-use mathlib.Core.Path.{ap}
+use mathlib.Core.Path.{_∙_, ap}
 use lib.ListN.{length}
 use Rattle.listing.specs.Listing.{nameIn}
 use Rattle.groups.proofs.Lines.{tag-none, tag-put}
@@ -27,7 +27,7 @@ put-bytes-requires : tie.Need-put-bytes-requires
 put-bytes-requires c κs = search needs
 
 same-length : tie.Need-same-length
-same-length c = search needs
+same-length c = c .before .before .put-bytes .kept .0 ∙ c .before .before .before .before .before .before .before .before .put-byte .kept .0
 
 returns-2 : tie.Need-returns-2
 unfolding nameIn

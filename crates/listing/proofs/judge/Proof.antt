@@ -19,6 +19,9 @@ is-order-requires c κs = search needs
 refuse-requires-2 : tie.Need-refuse-requires-2
 refuse-requires-2 c κs = search needs
 
+are-unlike-requires : tie.Need-are-unlike-requires
+are-unlike-requires c κs = search needs
+
 refuse-requires-3 : tie.Need-refuse-requires-3
 refuse-requires-3 c κs = search needs
 
@@ -31,6 +34,9 @@ refuse-requires-5 c κs = search needs
 refuse-requires-6 : tie.Need-refuse-requires-6
 refuse-requires-6 c κs = search needs
 
+refuse-requires-7 : tie.Need-refuse-requires-7
+refuse-requires-7 c κs = search needs
+
 returns : tie.Need-returns
 unfolding sheetLines
 returns c =
@@ -38,13 +44,15 @@ returns c =
     (said-line _ _ _ _ _ _ refl
     (said-line _ _ _ _ _ _ refl
     (said-line _ _ _ _ _ _ refl
-    (said-line _ _ _ _ _ _ (ap not (c .before .before .before .before .before .is-order .ensures))
-    (said-last _ _ _ _ (ap not (c .before .before .before .before .before .before .before .all-short .ensures)) (c .before .before .before .before .before .before .refuse .ensures))
-    (c .before .before .before .before .refuse2 .ensures))
-    (c .before .before .before .refuse3 .ensures))
-    (c .before .before .refuse4 .ensures))
-    (c .before .refuse5 .ensures))
-    (c .refuse6 .ensures)
+    (said-line _ _ _ _ _ _ (c .before .before .before .before .before .are-unlike .ensures)
+    (said-line _ _ _ _ _ _ (ap not (c .before .before .before .before .before .before .before .is-order .ensures))
+    (said-last _ _ _ _ (ap not (c .before .before .before .before .before .before .before .before .before .all-short .ensures)) (c .before .before .before .before .before .before .before .before .refuse .ensures))
+    (c .before .before .before .before .before .before .refuse2 .ensures))
+    (c .before .before .before .before .refuse3 .ensures))
+    (c .before .before .before .refuse4 .ensures))
+    (c .before .before .refuse5 .ensures))
+    (c .before .refuse6 .ensures))
+    (c .refuse7 .ensures)
 
 pub judge-spec : {M : Type 1} → statement M
 judge-spec =
@@ -54,8 +62,10 @@ judge-spec =
     refuse-requires
     is-order-requires
     refuse-requires-2
+    are-unlike-requires
     refuse-requires-3
     refuse-requires-4
     refuse-requires-5
     refuse-requires-6
+    refuse-requires-7
     returns)

@@ -1,4 +1,4 @@
--- `listing::put_asset` meets its contract: six writes, one after the other. Assumes nothing.
+-- `listing::put_asset` meets its contract: seven writes, one after the other. Assumes nothing.
 use mathlib.Core.Path.{_∙_, ap}
 use Rattle.writing.specs.Writing.{hexOf}
 use Rattle.writing.proofs.Writing.{renamed-put}
@@ -24,23 +24,20 @@ put-byte-requires-2 c κs = tt
 put-decimal-requires : tie.Need-put-decimal-requires
 put-decimal-requires c κs = tt
 
+put-ceiling-requires : tie.Need-put-ceiling-requires
+put-ceiling-requires c κs = tt
+
 put-byte-requires-3 : tie.Need-put-byte-requires-3
 put-byte-requires-3 c κs = tt
 
 same-length : tie.Need-same-length
-same-length c = c .before .before .put-byte3 .kept .0 ∙ c .before .before .before .before .before .before .put-decimal .kept .0 ∙ c .before .before .before .before .before .before .before .before .before .before .put-byte2 .kept .0 ∙ c .before .before .before .before .before .before .before .before .before .before .before .before .before .before .put-hex .kept .0 ∙ c .before .before .before .before .before .before .before .before .before .before .before .before .before .before .before .before .before .before .before .put-byte .kept .0 ∙ c .before .before .before .before .before .before .before .before .before .before .before .before .before .before .before .before .before .before .before .before .before .before .before .put-bytes .kept .0
+same-length c = c .before .before .put-byte3 .kept .0 ∙ c .before .before .before .before .before .before .put-ceiling .kept .0 ∙ c .before .before .before .before .before .before .before .before .before .before .put-decimal .kept .0 ∙ c .before .before .before .before .before .before .before .before .before .before .before .before .before .before .put-byte2 .kept .0 ∙ c .before .before .before .before .before .before .before .before .before .before .before .before .before .before .before .before .before .before .put-hex .kept .0 ∙ c .before .before .before .before .before .before .before .before .before .before .before .before .before .before .before .before .before .before .before .before .before .before .before .put-byte .kept .0 ∙ c .before .before .before .before .before .before .before .before .before .before .before .before .before .before .before .before .before .before .before .before .before .before .before .before .before .before .before .put-bytes .kept .0
 
 returns : tie.Need-returns
 returns c =
-    let ended = c .before .before in
-    let counted = ended .before .before .before .before in
-    let parted = counted .before .before .before .before in
-    let weighed = parted .before .before .before .before in
-    let tabbed = weighed .before .before .before .before .before in
-    let named = tabbed .before .before .before .before in
-    let start = named .before .before .before .before in
-    let hex = renamed-put _ (weighed .put-hex .ensures) (ap hexOf (weighed .before .to-bits .ensures)) in
-    line-put _ (start .args .w) _ (named .put-bytes .ensures) (tabbed .put-byte .ensures) hex (parted .put-byte2 .ensures) (counted .put-decimal .ensures) (ended .put-byte3 .ensures) (start .pre .0) (start .pre .1)
+    let start = c .before .before .before .before .before .before .before .before .before .before .before .before .before .before .before .before .before .before .before .before .before .before .before .before .before .before .before .before .before .before .before in
+    let hex = renamed-put _ (c .before .before .before .before .before .before .before .before .before .before .before .before .before .before .before .before .before .before .put-hex .ensures) (ap hexOf (c .before .before .before .before .before .before .before .before .before .before .before .before .before .before .before .before .before .before .before .to-bits .ensures)) in
+    line-put _ (start .args .holding) (c .before .before .before .before .before .before .before .before .before .before .before .before .before .before .before .before .before .before .before .before .before .before .before .before .before .before .before .put-bytes .ensures) (c .before .before .before .before .before .before .before .before .before .before .before .before .before .before .before .before .before .before .before .before .before .before .before .put-byte .ensures) hex (c .before .before .before .before .before .before .before .before .before .before .before .before .before .before .put-byte2 .ensures) (c .before .before .before .before .before .before .before .before .before .before .put-decimal .ensures) (c .before .before .before .before .before .before .put-ceiling .ensures) (c .before .before .put-byte3 .ensures) (start .pre .0) (start .pre .1)
 
 pub put-asset-spec : {M : Type 1} → statement M
 put-asset-spec =
@@ -52,6 +49,7 @@ put-asset-spec =
     put-hex-requires
     put-byte-requires-2
     put-decimal-requires
+    put-ceiling-requires
     put-byte-requires-3
     same-length
     returns)
