@@ -82,13 +82,14 @@ uint8_t rovignesc_quasi_diagonalization(const size_t *rows, size_t rows_len, siz
 
 /* A job text to its listing. The listing takes at least 8192 bytes (else 11); bytes has room for one number (else 11): how many bytes of it there
    are. A refused text has no listing: every byte is zero, and the number too.
-   The millionths of a listing total 1,000,000; where they cannot, nobody's moved by more than one, the text is refused by 18. */
+   The millionths of a listing total 1,000,000; where they cannot, nobody's moved by more than one, the text is refused by 18. Where the text has
+   ceilings, each line has the asset's as a fourth field, and no millionths are above it; where they total less than 1,000,000 the text is refused by 20. */
 uint8_t rovignesc_listing(const uint8_t *text, size_t text_len,
                           uint8_t *listing, size_t listing_len,
                           size_t *bytes, size_t bytes_len);
 
-/* A job text to its sheet: a line for each node of its tree, from the root down, left first: depth, size and the subtotal of the listing's millionths,
-   with tabs between. With names (named is not 0) the same lines, each indented by two spaces for each node above, and the asset's name after a tab on a
+/* A job text to its sheet: a line for each node of its tree, from the root down, left first: depth, size and the subtotal of the listing's millionths
+   (after ceilings), with tabs between. With names (named is not 0) the same lines, each indented by two spaces for each node above, and the asset's name after a tab on a
    leaf's. The sheet takes at least 8192 bytes, 32768 with names (else 11); bytes has room for one number (else 11): how many bytes of it there are. A
    refused text has no sheet: every byte is zero, and the number too.
    The first line's subtotal, the root's, is 1,000,000, and each branch's is the sum of its two children's. */

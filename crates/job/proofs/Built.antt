@@ -1,7 +1,7 @@
 -- What the allocator's call for a text builds, where it is not refused: a tree, its leaf order, a weight for each asset. Assumes nothing.
 use Prim.Native.Nat.{ℕ, _*_, _-_, _≤_, _<_}
 use mathlib.Core.Path.{_≡_, refl, sym, ap, _∙_, subst}
-use mathlib.Core.Bool.{Bool, true, false}
+use mathlib.Core.Bool.{true, false}
 use mathlib.Core.List.{List}
 use native.Mathlib.Omega.{arith}
 use borrow.Author.Tests.{ltb-false, eqb-false}
@@ -36,7 +36,8 @@ use Rattle.hcaa.specs.Hcaa as hcaa
 use Rattle.hcaa.proofs.Equal.{allocated}
 use Rattle.equal.specs.Equal.{EqualShares}
 use Rattle.metrics.specs.declared.Metric.the-variants.{EqualWeighting}
-use Rattle.reading.specs.Reading.{assets, jobIn}
+use Rattle.reading.specs.Reading.{assets, blockIn, jobIn}
+use Rattle.reading.specs.declared.Block.{Block}
 use Rattle.reading.specs.declared.Reading.{Reading}
 use Rattle.reading.specs.declared.Reading.the-variants as reading
 use Rattle.reading.proofs.Accepted.{job-hrp, job-hcaa}
@@ -70,20 +71,20 @@ some-of (shares.some ws) e = refl
 -- ---- HRP's
 
 module _ (text : List ℕ) (d : Distance) where
-  module _ (n rows : ℕ) (p : Bool) where
-    pub hrp-says : allocatorSays text (reading.Hrp n rows p d) ≡ hrp.hrpOutcome (hrpJobIn text d) roomOfHrp
+  module _ (b : Block) where
+    pub hrp-says : allocatorSays text (reading.Hrp b d) ≡ hrp.hrpOutcome (hrpJobIn text d) roomOfHrp
     unfolding allocatorSays
     hrp-says = refl
 
-    pub hrp-weights : jobWeights text (reading.Hrp n rows p d) ≡ weightsIn (parity.hrpShares d (hrp.hrpCovariance (hrpJobIn text d)) n)
+    pub hrp-weights : jobWeights text (reading.Hrp b d) ≡ weightsIn (parity.hrpShares d (hrp.hrpCovariance (hrpJobIn text d)) (b .assets))
     unfolding jobWeights
     hrp-weights = refl
 
-    pub hrp-rows : jobRows text (reading.Hrp n rows p d) ≡ parity.hrpRows d (hrp.hrpCovariance (hrpJobIn text d)) n
+    pub hrp-rows : jobRows text (reading.Hrp b d) ≡ parity.hrpRows d (hrp.hrpCovariance (hrpJobIn text d)) (b .assets)
     unfolding jobRows
     hrp-rows = refl
 
-    pub hrp-order : jobOrder text (reading.Hrp n rows p d) ≡ parity.hrpOrder d (hrp.hrpCovariance (hrpJobIn text d)) n
+    pub hrp-order : jobOrder text (reading.Hrp b d) ≡ parity.hrpOrder d (hrp.hrpCovariance (hrpJobIn text d)) (b .assets)
     unfolding jobOrder
     hrp-order = refl
 
@@ -118,32 +119,33 @@ hrp-done j e =
     let s = parts-done (hrp.hrpShapeLines j) _ (b .1) in
     record { few = ltb-false 64 (j .assets) (none sizes (a .0) .0); some = none _ (s .0) .1 .0; shared = none _ (s .1) .1 .1 .1 .1 .0 }
 
-hrp-built : (text : List ℕ) (rows : ℕ) (p : Bool) (d : Distance) → hrp.hrpOutcome (hrpJobIn text d) roomOfHrp ≡ outcome.Done → Built text (reading.Hrp (assets text) rows p d)
-unfolding hrpJobIn
-hrp-built text rows p d e =
+hrp-built : (text : List ℕ) (d : Distance) → hrp.hrpOutcome (hrpJobIn text d) roomOfHrp ≡ outcome.Done → Built text (reading.Hrp (blockIn text) d)
+unfolding hrpJobIn blockIn
+hrp-built text d e =
     let n = assets text in
+    let b = blockIn text in
     let cov = hrp.hrpCovariance (hrpJobIn text d) in
     let g = hrp-done (hrpJobIn text d) e in
-    grown text (reading.Hrp n rows p d) (g .few) (g .some) Single (hrp-distances n cov d)
-    (hrp-rows text d n rows p ∙ hrp-merged n cov d) (hrp-order text d n rows p ∙ hrp-leaves n cov d) (ap length (hrp-weights text d n rows p) ∙ hrp-length n cov d (g .shared))
+    grown text (reading.Hrp b d) (g .few) (g .some) Single (hrp-distances n cov d)
+    (hrp-rows text d b ∙ hrp-merged n cov d) (hrp-order text d b ∙ hrp-leaves n cov d) (ap length (hrp-weights text d b) ∙ hrp-length n cov d (g .shared))
 
 -- ---- HCAA's
 
 module _ (text : List ℕ) (l : Linkage) (d : Distance) where
-  module _ (n rows : ℕ) (p : Bool) where
-    pub hcaa-says : allocatorSays text (reading.Hcaa n rows p l d) ≡ hcaa.hcaaOutcome (hcaaJobIn text l d) roomOfHcaa
+  module _ (b : Block) where
+    pub hcaa-says : allocatorSays text (reading.Hcaa b l d) ≡ hcaa.hcaaOutcome (hcaaJobIn text l d) roomOfHcaa
     unfolding allocatorSays
     hcaa-says = refl
 
-    pub hcaa-weights : jobWeights text (reading.Hcaa n rows p l d) ≡ weightsIn (hierarchy.hcaaShares (hcaa.usedRule (hcaaJobIn text l d)) d l (hcaa.hcaaCovariance (hcaaJobIn text l d)) n)
+    pub hcaa-weights : jobWeights text (reading.Hcaa b l d) ≡ weightsIn (hierarchy.hcaaShares (hcaa.usedRule (hcaaJobIn text l d)) d l (hcaa.hcaaCovariance (hcaaJobIn text l d)) (b .assets))
     unfolding jobWeights
     hcaa-weights = refl
 
-    pub hcaa-rows : jobRows text (reading.Hcaa n rows p l d) ≡ hierarchy.hcaaRows d l (hcaa.hcaaCovariance (hcaaJobIn text l d)) n
+    pub hcaa-rows : jobRows text (reading.Hcaa b l d) ≡ hierarchy.hcaaRows d l (hcaa.hcaaCovariance (hcaaJobIn text l d)) (b .assets)
     unfolding jobRows
     hcaa-rows = refl
 
-    pub hcaa-order : jobOrder text (reading.Hcaa n rows p l d) ≡ hierarchy.hcaaOrder d l (hcaa.hcaaCovariance (hcaaJobIn text l d)) n
+    pub hcaa-order : jobOrder text (reading.Hcaa b l d) ≡ hierarchy.hcaaOrder d l (hcaa.hcaaCovariance (hcaaJobIn text l d)) (b .assets)
     unfolding jobOrder
     hcaa-order = refl
 
@@ -183,22 +185,23 @@ hcaa-done j e =
     let w = parts-done (hierarchy.ruleLines (hcaa.usedRule j) (j .assets)) _ (u .1) in
     record { few = ltb-false 64 (j .assets) (none sizes (a .0) .0); some = none _ (s .0) .1 .1 .0; shared = none _ (w .1) .1 .0 }
 
-hcaa-built : (text : List ℕ) (rows : ℕ) (p : Bool) (l : Linkage) (d : Distance) → hcaa.hcaaOutcome (hcaaJobIn text l d) roomOfHcaa ≡ outcome.Done → Built text (reading.Hcaa (assets text) rows p l d)
-unfolding hcaaJobIn
-hcaa-built text rows p l d e =
+hcaa-built : (text : List ℕ) (l : Linkage) (d : Distance) → hcaa.hcaaOutcome (hcaaJobIn text l d) roomOfHcaa ≡ outcome.Done → Built text (reading.Hcaa (blockIn text) l d)
+unfolding hcaaJobIn blockIn
+hcaa-built text l d e =
     let n = assets text in
+    let b = blockIn text in
     let cov = hcaa.hcaaCovariance (hcaaJobIn text l d) in
     let g = hcaa-done (hcaaJobIn text l d) e in
-    grown text (reading.Hcaa n rows p l d) (g .few) (g .some) l (hcaa-distances n cov l d)
-    (hcaa-rows text l d n rows p ∙ hcaa-merged n cov l d) (hcaa-order text l d n rows p ∙ hcaa-leaves n cov l d) (ap length (hcaa-weights text l d n rows p) ∙ hcaa-length n cov l d _ (g .shared))
+    grown text (reading.Hcaa b l d) (g .few) (g .some) l (hcaa-distances n cov l d)
+    (hcaa-rows text l d b ∙ hcaa-merged n cov l d) (hcaa-order text l d b ∙ hcaa-leaves n cov l d) (ap length (hcaa-weights text l d b) ∙ hcaa-length n cov l d _ (g .shared))
 
 -- ---- either
 
 built-as : (text : List ℕ) (job : Reading) → jobIn text ≡ job → allocatorSays text job ≡ outcome.Done → Built text job
 unfolding allocatorSays
 built-as text (reading.Refused r) j e = absurd (let z : _≡_ {A = ℕ} 0 1 = cc in omega arith)
-built-as text (reading.Hrp n rows p d) j e = subst (λ (k : ℕ). Built text (reading.Hrp k rows p d)) (sym (job-hrp text n rows p d j .counted)) (hrp-built text rows p d e)
-built-as text (reading.Hcaa n rows p l d) j e = subst (λ (k : ℕ). Built text (reading.Hcaa k rows p l d)) (sym (job-hcaa text n rows p l d j .counted)) (hcaa-built text rows p l d e)
+built-as text (reading.Hrp b d) j e = subst (λ (k : Block). Built text (reading.Hrp k d)) (sym (job-hrp text b d j .block-is)) (hrp-built text d e)
+built-as text (reading.Hcaa b l d) j e = subst (λ (k : Block). Built text (reading.Hcaa k l d)) (sym (job-hcaa text b l d j .block-is)) (hcaa-built text l d e)
 
 pub built : (text : List ℕ) → allocatorSays text (jobIn text) ≡ outcome.Done → Built text (jobIn text)
 built text e = built-as text (jobIn text) refl e

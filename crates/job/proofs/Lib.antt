@@ -1,4 +1,4 @@
 pub mod Built
 pub mod Ends
 pub mod Jobs
-pub mod Sheets
+pub mod Promises

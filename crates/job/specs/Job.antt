@@ -1,5 +1,5 @@
 -- Document 01, "Millionths and the job program": from a job text to its listing. "Order: 9, 15, 8, 7, the allocator's, 13"; document 02, request 3: "18, after 13";
--- request 8: prices "in place of the covariance"; and request 13: from a job text to its sheet. Definitions only.
+-- request 8: prices "in place of the covariance"; request 13: from a job text to its sheet; request 10: "20, after 18". Definitions only.
 use Prim.Native.Nat.{ℕ, _+_, _-_, _*_, _<_}
 use mathlib.Core.Path.{_≡_}
 use mathlib.Core.Bool.{Bool, true, false, not}
@@ -17,7 +17,7 @@ use Rattle.text.specs.Bytes.{bytes}
 use Rattle.heading.specs.Heading.{field, clustersOf}
 use Rattle.heading.specs.declared.Asked.{Asked}
 use Rattle.heading.specs.declared.Asked.the-variants as asked
-use Rattle.reading.specs.Reading.{most-bytes, textLines, jobIn, line, priced, rowsIn, assets, cellsIn, nameOf}
+use Rattle.reading.specs.Reading.{most-bytes, textLines, blockIn, jobIn, line, priced, ceiled, rowsIn, assets, cellsIn, nameOf, ceilingsIn, ReadRoom}
 use Rattle.reading.specs.declared.Reading.{Reading}
 use Rattle.reading.specs.declared.Reading.the-variants as reading
 use Rattle.linkage.specs.declared.Distance.{Distance}
@@ -31,8 +31,10 @@ use Rattle.hcaa.specs.declared.Clusters.{Clusters}
 use Rattle.hcaa.specs.declared.Clusters.the-variants as clusters
 use Rattle.metrics.specs.declared.Metric.the-variants.{EqualWeighting}
 use Rattle.equal.specs.Equal.{EqualShares}
-use Rattle.millionths.specs.Millionths.{millionthsIn, millionthsLines}
+use Rattle.millionths.specs.Millionths.{millionthsIn}
 use Rattle.millionths.specs.Meaning.{Serves}
+use Rattle.ceilings.specs.Figures.{figuresIn, figuresLines}
+use Rattle.ceilings.specs.Meaning.{Capped}
 use Rattle.tree.specs.Tree.{left, right}
 use Rattle.branches.specs.Branch.{membersOf, subtotal}
 use Rattle.listing.specs.Listing.{listing, least-listing, ListingMade}
@@ -102,6 +104,9 @@ hcaaJobIn text l d = record {
 }
 
 -- buffers for 64 assets
+abbrev pub roomOfReader : ReadRoom
+roomOfReader = record { cells = 4096; starts = 64; ceilings = 64 }
+
 abbrev pub roomOfHrp : parity.ParityRoom
 roomOfHrp = record { rows = 126; order = 64; weights = 64; correlations = 4096; distances = 4096; scratch = 8192 }
 
@@ -113,39 +118,44 @@ roomOfHcaa = record { rows = 126; order = 64; weights = 64; scratch = 8192 }
 unfoldable pub allocatorSays : List ℕ → Reading → Outcome
 unfolding hrpJobIn hcaaJobIn
 allocatorSays text (reading.Refused r) = outcome.Refused r
-allocatorSays text (reading.Hrp n rows p d) = hrp.hrpOutcome (hrpJobIn text d) roomOfHrp
-allocatorSays text (reading.Hcaa n rows p l d) = hcaa.hcaaOutcome (hcaaJobIn text l d) roomOfHcaa
+allocatorSays text (reading.Hrp b d) = hrp.hrpOutcome (hrpJobIn text d) roomOfHrp
+allocatorSays text (reading.Hcaa b l d) = hcaa.hcaaOutcome (hcaaJobIn text l d) roomOfHcaa
 
 unfoldable pub jobWeights : List ℕ → Reading → List Float
 unfolding hrpJobIn hcaaJobIn
 jobWeights text (reading.Refused r) = []
-jobWeights text (reading.Hrp n rows p d) = weightsIn (parity.hrpShares d (hrp.hrpCovariance (hrpJobIn text d)) n)
-jobWeights text (reading.Hcaa n rows p l d) =
-    weightsIn (hierarchy.hcaaShares (hcaa.usedRule (hcaaJobIn text l d)) d l (hcaa.hcaaCovariance (hcaaJobIn text l d)) n)
+jobWeights text (reading.Hrp b d) = weightsIn (parity.hrpShares d (hrp.hrpCovariance (hrpJobIn text d)) (b .assets))
+jobWeights text (reading.Hcaa b l d) =
+    weightsIn (hierarchy.hcaaShares (hcaa.usedRule (hcaaJobIn text l d)) d l (hcaa.hcaaCovariance (hcaaJobIn text l d)) (b .assets))
 
 unfoldable pub jobOrder : List ℕ → Reading → List ℕ
 unfolding hrpJobIn hcaaJobIn
 jobOrder text (reading.Refused r) = []
-jobOrder text (reading.Hrp n rows p d) = parity.hrpOrder d (hrp.hrpCovariance (hrpJobIn text d)) n
-jobOrder text (reading.Hcaa n rows p l d) = hierarchy.hcaaOrder d l (hcaa.hcaaCovariance (hcaaJobIn text l d)) n
+jobOrder text (reading.Hrp b d) = parity.hrpOrder d (hrp.hrpCovariance (hrpJobIn text d)) (b .assets)
+jobOrder text (reading.Hcaa b l d) = hierarchy.hcaaOrder d l (hcaa.hcaaCovariance (hcaaJobIn text l d)) (b .assets)
 
 -- the rows of its tree
 unfoldable pub jobRows : List ℕ → Reading → List ℕ
 unfolding hrpJobIn hcaaJobIn
 jobRows text (reading.Refused r) = []
-jobRows text (reading.Hrp n rows p d) = parity.hrpRows d (hrp.hrpCovariance (hrpJobIn text d)) n
-jobRows text (reading.Hcaa n rows p l d) = hierarchy.hcaaRows d l (hcaa.hcaaCovariance (hcaaJobIn text l d)) n
+jobRows text (reading.Hrp b d) = parity.hrpRows d (hrp.hrpCovariance (hrpJobIn text d)) (b .assets)
+jobRows text (reading.Hcaa b l d) = hierarchy.hcaaRows d l (hcaa.hcaaCovariance (hcaaJobIn text l d)) (b .assets)
+
+-- its figures in millionths, under the text's ceilings where it has any
+unfoldable pub figuresOf : List ℕ → List ℕ
+unfolding jobWeights jobIn ceilingsIn figuresIn
+figuresOf text = figuresIn (jobWeights text (jobIn text)) (ceilingsIn text)
 
 -- ---- what is printed of a job: its listing, or its sheet, with names or without
 
 unfoldable pub listingOf : List ℕ → List ℕ
-unfolding jobWeights jobOrder jobIn nameOf listing
-listingOf text = listing (nameOf text) (jobWeights text (jobIn text)) (jobOrder text (jobIn text))
+unfolding jobWeights jobOrder jobIn ceilingsIn nameOf listing
+listingOf text = listing (nameOf text) (jobWeights text (jobIn text)) (ceilingsIn text) (jobOrder text (jobIn text))
 
--- by the "listing's millionths"
+-- by the "listing's millionths", which are after ceilings
 unfoldable pub sheetOf : List ℕ → Bool → List ℕ
-unfolding jobWeights jobRows jobIn nameOf groupSheet
-sheetOf text named = groupSheet named (nameOf text) (jobRows text (jobIn text)) (millionthsIn (jobWeights text (jobIn text))) (assets text)
+unfolding figuresOf jobRows jobIn nameOf groupSheet
+sheetOf text named = groupSheet named (nameOf text) (jobRows text (jobIn text)) (figuresOf text) (assets text)
 
 unfoldable pub printedOf : List ℕ → Form → List ℕ
 unfolding listingOf sheetOf
@@ -166,28 +176,30 @@ unfolding leastFor textLines
 textTable text f room = (ltb most-bytes (length text), OverLimit) ∷ (ltb room (leastFor f), ShortBuffer) ∷ textLines text
 
 unfoldable pub jobOutcome : List ℕ → Form → ℕ → Outcome
-unfolding textTable allocatorSays jobWeights jobIn
+unfolding textTable allocatorSays jobWeights jobIn ceilingsIn figuresLines
 jobOutcome text f room =
     andThen (first (textTable text f room))
-    (andThen (allocatorSays text (jobIn text)) (first (millionthsLines (jobWeights text (jobIn text)))))
+    (andThen (allocatorSays text (jobIn text)) (first (figuresLines (jobWeights text (jobIn text)) (ceilingsIn text))))
 
 -- ---- the two calls
 
 -- what a call answers and leaves in its buffer. A refused text leaves zeros; the refusal is what is returned
 pub record TextListed (text : List ℕ) (room : ℕ) (r : Listed) (out : List ℕ) : Type 0 where
   pub made : ListingMade (jobOutcome text form.Listing room) (listingOf text) room r out
-  -- document 02, request 3: an accepted text lists millionths that total 1,000,000, nobody's moved by more than one
+  -- document 02, request 3: an accepted text has millionths that total 1,000,000, nobody's moved by more than one; it lists these where it has no ceilings
   pub adds-up : jobOutcome text form.Listing room ≡ outcome.Done → Serves (jobWeights text (jobIn text)) (millionthsIn (jobWeights text (jobIn text)))
-  -- demand 3: an accepted `hcaa` text by equal weighting lists equal shares, by the rows of its tree and its clusters
-  pub equal-shares : (l : Linkage) (d : Distance) → jobOutcome text form.Listing room ≡ outcome.Done → jobIn text ≡ reading.Hcaa (assets text) (rowsIn text) (priced text) l d
+  -- request 10: where it has ceilings, what it lists totals 1,000,000 too, nobody's above the ceiling, or below the smaller of that figure and the ceiling
+  pub capped : jobOutcome text form.Listing room ≡ outcome.Done → ceiled text ≡ true → Capped (millionthsIn (jobWeights text (jobIn text))) (ceilingsIn text) (figuresOf text)
+  -- demand 3, which "speaks of weights before ceilings": an accepted `hcaa` text by equal weighting lists equal shares, by the rows of its tree and its clusters
+  pub equal-shares : (l : Linkage) (d : Distance) → jobOutcome text form.Listing room ≡ outcome.Done → jobIn text ≡ reading.Hcaa (blockIn text) l d
       → hcaa.usedMetric (hcaaJobIn text l d) ≡ EqualWeighting
       → EqualShares (assets text) (hcaa.clusterCount (clustersIn text) (assets text))
       (hierarchy.hcaaRows d l (hcaa.hcaaCovariance (hcaaJobIn text l d)) (assets text)) (jobWeights text (jobIn text))
 
 -- the millionths of a node's assets
 unfoldable pub subtotalAt : List ℕ → ℕ → ℕ
-unfolding jobWeights jobRows jobIn membersOf subtotal
-subtotalAt text v = subtotal (millionthsIn (jobWeights text (jobIn text))) (membersOf (jobRows text (jobIn text)) (assets text) v)
+unfolding figuresOf jobRows jobIn membersOf subtotal
+subtotalAt text v = subtotal (figuresOf text) (membersOf (jobRows text (jobIn text)) (assets text) v)
 
 pub record TextSheeted (text : List ℕ) (named : Bool) (room : ℕ) (r : Listed) (out : List ℕ) : Type 0 where
   pub made : ListingMade (jobOutcome text (form.Sheet named) room) (sheetOf text named) room r out

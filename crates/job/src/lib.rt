@@ -6,6 +6,7 @@ use lent::Shape;
 use linkage::Distance;
 use linkage::Linkage;
 use listing::Listed;
+use reading::Block;
 use reading::Reading;
 use refusal::Outcome;
 use refusal::Refusal;
@@ -17,13 +18,21 @@ ghost use Rattle.refusal.specs.declared.Refusal.the-variants.{OverLimit, ShortB
 ghost use Rattle.refusal.specs.declared.Outcome.the-variants.{Done};
 ghost use Rattle.heading.specs.Heading.{field, clustersOf};
 ghost use Rattle.reading.specs.declared.Reading.the-variants as reading;
-ghost use Rattle.job.specs.Inner.{BlankListing, Read, Allotted, Told};
-ghost use Rattle.job.specs.Job.{clustersAs, cellsIf, roomOfHrp, roomOfHcaa, leastFor, TextListed, TextSheeted};
+ghost use Rattle.job.specs.Inner.{BlankListing, Read, blockRead, Held, Placed, Allotted, Told};
+ghost use Rattle.job.specs.Job.{clustersAs, cellsIf, leastFor, TextListed, TextSheeted};
 
 // What is printed of a job.
 pub enum Form {
     Listing,
     Sheet { named: bool },
+}
+
+// What was said of a text, and an allocator's answer at the front of buffers for 64 assets.
+struct Allotment {
+    said: Outcome,
+    rows: [usize; 126],
+    order: [usize; 64],
+    weights: [f64; 64],
 }
 
 // What the tail-risk metrics read of prices.
@@ -39,119 +48,52 @@ fn cells_if(given: bool, cells: &[f64]) -> &[f64]
     &cells[..0]
 }
 
-// An allocator's answer for the assets whose names begin at `starts`, printed.
-fn print(
-    text: &[u8],
-    starts: &[usize],
-    rows: &[usize],
-    order: &[usize],
-    weights: &[f64],
-    form: Form,
-    out: &mut [u8],
-) -> Listed
-    requires { ⌜ Allotted (now text) (now starts) (now rows) (now order) (now weights) Done ⌝ }
-    requires { ⌜ BlankListing form (now out) ⌝ }
-    ensures { λ r. ⌜ Told (now (text .entry)) form (length (now (out .entry))) r (now (out .exit)) ⌝ }
-{
-    let n = starts.len();
-    match form {
-        Form::Listing => listing::sheet(text, starts, &weights[..n], &order[..n], out),
-        Form::Sheet { named } => groups::group_sheet(
-            text,
-            starts,
-            &weights[..n],
-            &rows[..2 * (n - 1)],
-            named,
-            out,
-        ),
-    }
-}
-
-// What the allocator said; where it accepts, its answer printed.
+// What was said of a text. Where it is accepted, the allocator's answer is printed: for the assets whose names begin at `starts`, under their ceilings where there are any.
 fn finish(
     text: &[u8],
     starts: &[usize],
-    rows: &[usize],
-    order: &[usize],
-    weights: &[f64],
-    said: Outcome,
+    ceilings: &[usize],
+    found: Allotment,
     form: Form,
     out: &mut [u8],
 ) -> Listed
-    requires { ⌜ Allotted (now text) (now starts) (now rows) (now order) (now weights) said ⌝ }
+    requires { ⌜ Placed (now text) (now starts) (now ceilings) ⌝ }
+    requires { ⌜ Allotted (now text) found ⌝ }
     requires { ⌜ BlankListing form (now out) ⌝ }
     ensures { λ r. ⌜ Told (now (text .entry)) form (length (now (out .entry))) r (now (out .exit)) ⌝ }
 {
+    let said = found.said;
+    let weights = found.weights;
     match said {
-        Outcome::Done => print(text, starts, rows, order, weights, form, out),
         Outcome::Refused(r) => Listed::Refused(r),
+        Outcome::Done => {
+            let n = starts.len();
+            match form {
+                Form::Listing => {
+                    let order = found.order;
+                    listing::sheet(text, starts, &weights[..n], ceilings, &order[..n], out)
+                }
+                Form::Sheet { named } => {
+                    let rows = found.rows;
+                    groups::group_sheet(
+                        text,
+                        starts,
+                        &weights[..n],
+                        ceilings,
+                        &rows[..2 * (n - 1)],
+                        named,
+                        out,
+                    )
+                }
+            }
+        }
     }
 }
 
-// The allocation of an `hrp` job, in these buffers, and its listing.
-fn hrp_in(
-    rows: &mut [usize],
-    order: &mut [usize],
-    weights: &mut [f64],
-    correlations: &mut [f64],
-    distances: &mut [f64],
-    scratch: &mut [f64],
-    text: &[u8],
-    cells: &[f64],
-    starts: &[usize],
-    lines: usize,
-    priced: bool,
-    distance: Distance,
-    form: Form,
-    out: &mut [u8],
-) -> Listed
-    requires { ⌜ record {
-      rows = length (now rows);
-      order = length (now order);
-      weights = length (now weights);
-      correlations = length (now correlations);
-      distances = length (now distances);
-      scratch = length (now scratch);
-    } ≡ roomOfHrp ⌝ }
-    requires { ⌜ Read (now text) (reading.Hrp (length (now starts)) lines priced distance) (now cells) (now starts) ⌝ }
-    requires { ⌜ BlankListing form (now out) ⌝ }
-    ensures { λ r. ⌜ Told (now (text .entry)) form (length (now (out .entry))) r (now (out .exit)) ⌝ }
-{
-    let n = starts.len();
-    let said = hrp::allocate(
-        n,
-        cells_if(priced, cells),
-        lent::shape_if(priced, lines, n),
-        &cells[..0],
-        Shape::Absent,
-        cells_if(!priced, cells),
-        lent::shape_if(!priced, lines, n),
-        &text[..0],
-        false,
-        distance,
-        rows,
-        order,
-        weights,
-        correlations,
-        distances,
-        scratch,
-    );
-    finish(text, starts, rows, order, weights, said, form, out)
-}
-
-fn by_hrp(
-    text: &[u8],
-    cells: &[f64],
-    starts: &[usize],
-    lines: usize,
-    priced: bool,
-    distance: Distance,
-    form: Form,
-    out: &mut [u8],
-) -> Listed
-    requires { ⌜ Read (now text) (reading.Hrp (length (now starts)) lines priced distance) (now cells) (now starts) ⌝ }
-    requires { ⌜ BlankListing form (now out) ⌝ }
-    ensures { λ r. ⌜ Told (now (text .entry)) form (length (now (out .entry))) r (now (out .exit)) ⌝ }
+// HRP's answer for a text.
+fn by_hrp(text: &[u8], cells: &[f64], block: Block, distance: Distance) -> Allotment
+    requires { ⌜ Read (now text) (reading.Hrp block distance) (now cells) ⌝ }
+    ensures { λ r. ⌜ Allotted (now (text .entry)) r ⌝ }
 {
     let mut rows = [0usize; 126];
     let mut order = [0usize; 64];
@@ -159,22 +101,30 @@ fn by_hrp(
     let mut correlations = [0.0; 4096];
     let mut distances = [0.0; 4096];
     let mut scratch = [0.0; 8192];
-    hrp_in(
+    let said = hrp::allocate(
+        block.assets,
+        cells_if(block.priced, cells),
+        lent::shape_if(block.priced, block.rows, block.assets),
+        &cells[..0],
+        Shape::Absent,
+        cells_if(!block.priced, cells),
+        lent::shape_if(!block.priced, block.rows, block.assets),
+        &text[..0],
+        false,
+        distance,
         &mut rows,
         &mut order,
         &mut weights,
         &mut correlations,
         &mut distances,
         &mut scratch,
-        text,
-        cells,
-        starts,
-        lines,
-        priced,
-        distance,
-        form,
-        out,
-    )
+    );
+    Allotment {
+        said,
+        rows,
+        order,
+        weights,
+    }
 }
 
 // The clusters that the first line of an `hcaa` job asks for.
@@ -189,37 +139,30 @@ fn clusters_in(line: &[u8]) -> Clusters
     }
 }
 
-// The same of an `hcaa` job.
-fn hcaa_in(
-    rows: &mut [usize],
-    order: &mut [usize],
-    weights: &mut [f64],
-    scratch: &mut [f64],
+// HCAA's answer for a text.
+fn by_hcaa(
     text: &[u8],
     cells: &[f64],
-    starts: &[usize],
-    lines: usize,
-    priced: bool,
+    block: Block,
     linkage: Linkage,
     distance: Distance,
-    form: Form,
-    out: &mut [u8],
-) -> Listed
-    requires { ⌜ record { rows = length (now rows); order = length (now order); weights = length (now weights); scratch = length (now scratch) } ≡ roomOfHcaa ⌝ }
-    requires { ⌜ Read (now text) (reading.Hcaa (length (now starts)) lines priced linkage distance) (now cells) (now starts) ⌝ }
-    requires { ⌜ BlankListing form (now out) ⌝ }
-    ensures { λ r. ⌜ Told (now (text .entry)) form (length (now (out .entry))) r (now (out .exit)) ⌝ }
+) -> Allotment
+    requires { ⌜ Read (now text) (reading.Hcaa block linkage distance) (now cells) ⌝ }
+    ensures { λ r. ⌜ Allotted (now (text .entry)) r ⌝ }
 {
-    let n = starts.len();
     let line = fields::piece(text, b'\n', 0);
+    let mut rows = [0usize; 126];
+    let mut order = [0usize; 64];
+    let mut weights = [0.0; 64];
+    let mut scratch = [0.0; 8192];
     let said = hcaa::allocate(
-        n,
-        cells_if(priced, cells),
-        lent::shape_if(priced, lines, n),
+        block.assets,
+        cells_if(block.priced, cells),
+        lent::shape_if(block.priced, block.rows, block.assets),
         &cells[..0],
         Shape::Absent,
-        cells_if(!priced, cells),
-        lent::shape_if(!priced, lines, n),
+        cells_if(!block.priced, cells),
+        lent::shape_if(!block.priced, block.rows, block.assets),
         &cells[..0],
         false,
         fields::piece(line, b'\t', 1),
@@ -229,105 +172,68 @@ fn hcaa_in(
         &line[..0],
         distance,
         linkage,
-        rows,
-        order,
-        weights,
-        scratch,
-    );
-    finish(text, starts, rows, order, weights, said, form, out)
-}
-
-fn by_hcaa(
-    text: &[u8],
-    cells: &[f64],
-    starts: &[usize],
-    lines: usize,
-    priced: bool,
-    linkage: Linkage,
-    distance: Distance,
-    form: Form,
-    out: &mut [u8],
-) -> Listed
-    requires { ⌜ Read (now text) (reading.Hcaa (length (now starts)) lines priced linkage distance) (now cells) (now starts) ⌝ }
-    requires { ⌜ BlankListing form (now out) ⌝ }
-    ensures { λ r. ⌜ Told (now (text .entry)) form (length (now (out .entry))) r (now (out .exit)) ⌝ }
-{
-    let mut rows = [0usize; 126];
-    let mut order = [0usize; 64];
-    let mut weights = [0.0; 64];
-    let mut scratch = [0.0; 8192];
-    hcaa_in(
         &mut rows,
         &mut order,
         &mut weights,
         &mut scratch,
-        text,
-        cells,
-        starts,
-        lines,
-        priced,
-        linkage,
-        distance,
-        form,
-        out,
-    )
+    );
+    Allotment {
+        said,
+        rows,
+        order,
+        weights,
+    }
 }
 
-// What is asked of a text, by way of its cells and the places where its assets' names begin.
-fn print_job(
-    cells: &mut [f64],
-    starts: &mut [usize],
-    text: &[u8],
-    form: Form,
-    out: &mut [u8],
-) -> Listed
-    requires { ⌜ length (now cells) ≡ 4096 ⌝ }
-    requires { ⌜ length (now starts) ≡ 64 ⌝ }
-    requires { ⌜ BlankListing form (now out) ⌝ }
-    ensures { λ r. ⌜ Told (now (text .entry)) form (length (now (out .entry))) r (now (out .exit)) ⌝ }
+// What was read, handed to the allocator that it asks for.
+fn allocate(text: &[u8], cells: &[f64], read: Reading) -> Allotment
+    requires { ⌜ Held (now text) read (now cells) ⌝ }
+    ensures { λ r. ⌜ Allotted (now (text .entry)) r ⌝ }
 {
-    let read = reading::read_job(text, cells, starts);
     match read {
-        Reading::Refused(r) => Listed::Refused(r),
-        Reading::Hrp {
-            assets,
-            rows,
-            priced,
-            distance,
-        } => {
-            let k = rows * assets;
-            by_hrp(
-                text,
-                &cells[..k],
-                &starts[..assets],
-                rows,
-                priced,
-                distance,
-                form,
-                out,
-            )
-        }
+        Reading::Refused(r) => Allotment {
+            said: Outcome::Refused(r),
+            rows: [0; 126],
+            order: [0; 64],
+            weights: [0.0; 64],
+        },
+        Reading::Hrp { block, distance } => by_hrp(text, cells, block, distance),
         Reading::Hcaa {
-            assets,
-            rows,
-            priced,
+            block,
             linkage,
             distance,
-        } => {
-            let k = rows * assets;
-            by_hcaa(
-                text,
-                &cells[..k],
-                &starts[..assets],
-                rows,
-                priced,
-                linkage,
-                distance,
-                form,
-                out,
-            )
-        }
+        } => by_hcaa(text, cells, block, linkage, distance),
     }
+}
+
+// What stands after the first line: nothing, where the text is refused.
+fn block_of(read: Reading) -> Block
+    ensures { λ r. ⌜ r ≡ blockRead read ⌝ }
+{
+    match read {
+        Reading::Refused(_) => Block {
+            assets: 0,
+            rows: 0,
+            priced: false,
+            ceiled: false,
+        },
+        Reading::Hrp { block, distance: _ } => block,
+        Reading::Hcaa {
+            block,
+            linkage: _,
+            distance: _,
+        } => block,
+    }
+}
+
+// How many ceilings a block has.
+fn ceilings_in(block: Block) -> usize
+    ensures { λ r. ⌜ r ≡ cond (block .ceiled) (block .assets) 0 ⌝ }
+{
+    if block.ceiled {
+        return block.assets;
+    }
+    0
 }
 
 // The bytes that hold everything of a form.
@@ -360,7 +266,14 @@ fn text_to(text: &[u8], form: Form, out: &mut [u8]) -> Listed
     }
     let mut cells = [0.0; 4096];
     let mut starts = [0usize; 64];
-    print_job(&mut cells, &mut starts, text, form, out)
+    let mut ceilings = [0usize; 64];
+    let read = reading::read_job(text, &mut cells, &mut starts, &mut ceilings);
+    let block = block_of(read);
+    let n = block.assets;
+    let k = block.rows * n;
+    let limits = ceilings_in(block);
+    let found = allocate(text, &cells[..k], read);
+    finish(text, &starts[..n], &ceilings[..limits], found, form, out)
 }
 
 // The listing of a job text.

@@ -1,6 +1,6 @@
 -- `job::cells_if` meets its contract. Assumes nothing.
-use borrow.Author.Needs.{needs}
 use Rattle.job.specs.Job.{cellsIf}
+use borrow.Author.Needs.{needs}
 use Rattle.job.proofs.cells_if.Statement.{statement}
 use Rattle.job.proofs.cells_if.Tie as tie
 

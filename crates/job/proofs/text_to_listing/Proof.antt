@@ -1,5 +1,5 @@
 -- `job::text_to_listing` meets its contract. Assumes nothing.
-use Rattle.job.proofs.Jobs.{promised}
+use Rattle.job.proofs.Promises.{promised}
 use borrow.Author.Needs.{needs}
 use Rattle.job.proofs.text_to_listing.Statement.{statement}
 use Rattle.job.proofs.text_to_listing.Tie as tie

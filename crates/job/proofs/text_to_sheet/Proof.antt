@@ -1,5 +1,5 @@
 -- `job::text_to_sheet` meets its contract. Assumes nothing.
-use Rattle.job.proofs.Sheets.{promised-sheet}
+use Rattle.job.proofs.Promises.{promised-sheet}
 use borrow.Author.Needs.{needs}
 use Rattle.job.proofs.text_to_sheet.Statement.{statement}
 use Rattle.job.proofs.text_to_sheet.Tie as tie

@@ -1,12 +1,11 @@
+-- `job::unlisted` meets its contract. Assumes nothing.
 use borrow.Author.Tests.{lt-ltb, le-ltb}
 use Rattle.job.proofs.unlisted.Statement.{statement}
 use Rattle.job.proofs.unlisted.Tie as tie
 
--- src/lib.rt:462:9
 returns : tie.Need-returns
 returns c = rw (lt-ltb 65536 _ (c .if1 .taken))
 
--- src/lib.rt:458:1
 returns-2 : tie.Need-returns-2
 returns-2 c = rw (le-ltb 65536 _ (c .if1 .left))
 
