@@ -1,4 +1,4 @@
--- Document 01, "Figures to check (P: proved)": its P figures, document 02's of request 1, and three job texts with their listings, the first with its sheet too, as one table under one claim, computed from the definitions that the public functions' contracts cite. Assumes nothing.
+-- Document 01, "Figures to check (P: proved)": its P figures, document 02's of request 1, and five job texts with their listings, the first with its sheet too and one under ceilings, as one table under one claim, computed from the definitions that the public functions' contracts cite. Assumes nothing.
 use mathlib.Core.Path.{_≡_, refl}
 use mathlib.Core.Bool.{Bool, true, false, _&&_}
 use mathlib.Core.List.{List, [], _∷_, _++_, map}
@@ -26,6 +26,9 @@ use Rattle.decimals.specs.Decimal as decimals
 use Rattle.resample.specs.Resample.{isWeekly, isMonthly, stepOf, keepsAll, keptRows, keptRow, sampledCell, returnCell, zeroMet, breaksPriceRules}
 use Rattle.fractions.specs.Fractions.{inRange, wholePart, leftOver, wholeAt, leftAt, sooner, rankOf}
 use Rattle.millionths.specs.Millionths.{wholeTotal, missing, millionthsAt, millionthsIn, outOfReach, millionthsLines, millionthsTable, millionthsOutcome, millionthsLaid}
+use Rattle.ceilings.specs.Ceilings as ceilings
+use Rattle.ceilings.specs.Figures.{figuresIn, figuresLines}
+use Rattle.ceilings.specs.Written.{ceilingOf, isCeiling}
 use Rattle.stats.specs.Covariance.{meanOf, spread, covarianceOf, covarianceCell, correlationCell, anyLow}
 use Rattle.distances.specs.Distances.{clamped, distanceOf, distanceCell, offDiagonal, square, between, betweenCell}
 use Rattle.tree.specs.Rows.{below, once, isTree}
@@ -207,11 +210,11 @@ text clusters =
 -- the call that a text asks for, by what is read in it
 abbrev called : Reading → List ℕ → List ℕ
 called (read.Refused r) t = numberOf r ∷ []
-called (read.Hrp n rows p d) t = []
-called (read.Hcaa n rows p l d) t = shared (job.hcaaJobIn t l d) n
+called (read.Hrp b d) t = []
+called (read.Hcaa b l d) t = shared (job.hcaaJobIn t l d) (b .assets)
 
 abbrev asks : List ℕ → List ℕ
-asks clusters = called (reading.readOf (text clusters) 4096 64) (text clusters)
+asks clusters = called (reading.readOf (text clusters) job.roomOfReader) (text clusters)
 
 abbrev hcaas : List Bool
 hcaas =
@@ -325,6 +328,10 @@ listings =
     -- of variances 1/8 and 2: 16/17 and 1/17
     ∷ lists (bytes "hrp\tcorrelation\tprices\nA\tB\n1\t1.0\n2.00\t3\n3\t4008000000000000\n")
     (bytes "A\t3fee1e1e1e1e1e1e\t941176\nB\t3fae1e1e1e1e1e20\t58824\norder\tA\tB\n")
+    -- HRP's figure above as a text; and document 02, request 10: A cut to its ceiling, and what was cut handed to B
+    ∷ lists (bytes "hrp\tcorrelation\nA\t1\t0\nB\t0\t3\n") (bytes "A\t3fe8000000000000\t750000\nB\t3fd0000000000000\t250000\norder\tA\tB\n")
+    ∷ lists (bytes "hrp\tcorrelation\tceilings\nA\t1\t0\t500000\nB\t0\t3\t0600000\n")
+    (bytes "A\t3fe8000000000000\t500000\t500000\nB\t3fd0000000000000\t500000\t600000\norder\tA\tB\n")
     -- document 02, request 13: "a line per node from the root down, left first: depth, size, subtotal"; and with names
     ∷ sheeted (text (bytes "-")) false 8192 (bytes "0\t3\t1000000\n1\t1\t500000\n1\t2\t500000\n2\t1\t250000\n2\t1\t250000\n")
     ∷ sheeted (text (bytes "-")) true 32768 (bytes "0\t3\t1000000\n  1\t1\t500000\tC\n  1\t2\t500000\n    2\t1\t250000\tA\n    2\t1\t250000\tB\n")
@@ -349,5 +356,5 @@ table = trees ++ (hcaas ++ (tails ++ (hrps Correlation ++ (hrps DistanceOfDistan
 
 -- "The P figures are proved as one table under one claim"
 pub figures : all table ≡ true
-unfolding andThen same lower lowered isWord childrenTable childrenOutcome childrenRows wardF updateF pairBefore near better offer look scanRow scanFrom scanAll both movable moved movedAll merged step copied start stateAt mergeRows order.orderTable order.orderOutcome order.orderLaid count below once isTree grow treeAt leaves onto split digit number isBits isNumeral numeralRead decimals.isCell decimals.cellOf decimals.isDecimal decimals.decimalOf decimals.signedBy decimals.overTens decimals.digitsOf decimals.isBare decimals.shaped decimals.bare decimals.signed distanceNamed linkageNamed heading.clustersOf heading.pricesAfter heading.isOf heading.isHrp heading.isHcaa heading.isPriced heading.distanceField heading.unknownLines heading.headOf reading.priced reading.rowsIn reading.assets isName reading.isRow reading.isAsset reading.isDay reading.isNames reading.isCovariance reading.isPrices reading.isBlock reading.isJob reading.textCell reading.cellsIn reading.nameOf reading.isOver reading.textLines reading.readTable reading.readOutcome reading.jobIn reading.readOf job.cellsIf job.hrpJobIn job.hcaaJobIn job.allocatorSays job.jobWeights job.jobOrder job.leastFor job.textTable job.jobOutcome job.listingOf job.jobRows job.sheetOf branch.walk branch.branches branch.find branch.firstOf branch.sizeOf branch.depthOf branch.membersOf branch.subtotal overAll groups.groupOf groups.groupFields groups.indent groups.tagOf groups.groupLine groups.nodesDown groups.lineDown groups.groupSheet groups.leastSheet shapeOf isWeekly isMonthly stepOf keepsAll keptRows keptRow sampledCell returnCell zeroMet breaksPriceRules sampled noReturns madeReturns meanOf spread covarianceOf covarianceCell hrp.estimated hrp.shrunkIf hcaa.namesJudged hcaa.rowsJudged hcaa.sharpeJudged listing.listing writing.joined listing.lineOf listing.ordered listing.assetLine writing.decimal writing.hexOf writing.places writing.digits writing.digitByte hcaa.hcaaReturnRows hcaa.returnColumns hcaa.hcaaReturnCells hcaa.pricesRefused hcaa.rowsMade hcaa.columnsMade hcaa.cellsMade hcaa.hcaaCovarianceBy hcaa.hcaaCovariance hcaa.metricOf hcaa.usedMetric hcaa.unnamed hcaa.isMean hcaa.isExponential hcaa.expectedOf hcaa.usedExpected hcaa.clusterCount hcaa.usedRule hcaa.nameLines hcaa.matrixRules hcaa.sharpeLines hcaa.hcaaTable hcaa.hcaaOutcome hcaa.usedInputs metricNamed isSharpe isTailRisk metricTailLines nearest.noPart tail.gain tail.rowReturn tail.tailSum tail.tailCount tail.mean tail.shortfall tail.wealth tail.higher tail.peak tail.fall tail.drawdown tail.conditionalDrawdown tail.shortfallOf tail.drawdownOf ordered.hasMinus ordered.before ordered.insert ordered.insertAll ordered.sorted nearest.wholeOf nearest.place nearest.quantile hierarchy.hcaaRows hierarchy.hcaaOrder hierarchy.hcaaShares hierarchy.roomLines hierarchy.shareLines allot.downShares allot.allotted allot.insideOf allot.variedOf allot.equalOf allot.spreadOf allot.dealTo sharing.splitOf sharing.scored sharing.byRisk sharing.splitBy sharing.bounded inRange every millionthsTable millionthsOutcome millionthsIn millionthsLaid hrp.pricesAlone hrp.hrpReturnRows hrp.hrpReturnCells hrp.hrpCovarianceBy hrp.hrpCovariance hrp.hrpShapeLines hrp.numberLines hrp.hrpTable hrp.hrpOutcome absent rowsOfShape otherColumns otherSize matrixLines parity.correlationsOf parity.hrpDistances parity.treeDistances distancesIn treeRows treeOrder parity.hrpRows parity.hrpOrder parity.hrpShares parity.parityRoomLines parity.hrpRiskLines bisection.factorOf bisection.sidesFactor bisection.halved bisection.bisected bisection.normal bisection.bisectionShares tooBig misfits overLimit otherLength sizes laid first tab grid sumTo sumOn sumRows anyTo range span isNone weightsIn recip recipSum shares term varianceOf outside anyLowOf riskTable sizeTable sharesOutcome varianceOutcome varianceAnswer correlationCell anyLow clamped distanceOf distanceCell offDiagonal square between betweenCell minOf maxOf absOf clampOf finiteOf countOf oneOver root isqrt lt le eq isNan neg add sum sub mul div ofInt round units odd trailingZeros size ieee-span climb ofFields ofBits toBits wholePart leftOver wholeAt leftAt sooner rankOf wholeTotal missing millionthsAt outOfReach millionthsLines upto
+unfolding andThen same lower lowered isWord childrenTable childrenOutcome childrenRows wardF updateF pairBefore near better offer look scanRow scanFrom scanAll both movable moved movedAll merged step copied start stateAt mergeRows order.orderTable order.orderOutcome order.orderLaid count below once isTree grow treeAt leaves onto split digit number isBits isNumeral numeralRead decimals.isCell decimals.cellOf decimals.isDecimal decimals.decimalOf decimals.signedBy decimals.overTens decimals.digitsOf decimals.isBare decimals.shaped decimals.bare decimals.signed distanceNamed linkageNamed heading.clustersOf heading.pricesAfter heading.ceilingsAfter heading.isOf heading.isHrp heading.isHcaa heading.ownFields heading.isPriced heading.isCeiled heading.distanceField heading.unknownLines heading.headOf reading.priced reading.ceiled reading.headIn reading.rowsIn reading.assets isName isCeiling ceilingOf reading.isRow reading.rowFields reading.isAsset reading.isDay reading.isNames reading.isCeilings reading.isCovariance reading.isPrices reading.isBlock reading.isJob reading.textCell reading.cellsIn reading.nameOf reading.textCeiling reading.ceilingsIn reading.isOver reading.textLines reading.readTable reading.readOutcome reading.blockIn reading.jobIn reading.readOf job.cellsIf job.hrpJobIn job.hcaaJobIn job.allocatorSays job.jobWeights job.jobOrder job.figuresOf job.leastFor job.textTable job.jobOutcome job.listingOf job.jobRows job.sheetOf branch.walk branch.branches branch.find branch.firstOf branch.sizeOf branch.depthOf branch.membersOf branch.subtotal overAll groups.groupOf groups.groupFields groups.indent groups.tagOf groups.groupLine groups.nodesDown groups.lineDown groups.groupSheet groups.leastSheet shapeOf isWeekly isMonthly stepOf keepsAll keptRows keptRow sampledCell returnCell zeroMet breaksPriceRules sampled noReturns madeReturns meanOf spread covarianceOf covarianceCell hrp.estimated hrp.shrunkIf hcaa.namesJudged hcaa.rowsJudged hcaa.sharpeJudged listing.listing writing.joined listing.ceilingAt listing.holdingAt listing.ceilingField listing.holdingLine listing.lineOf listing.ordered writing.decimal writing.hexOf writing.places writing.digits writing.digitByte hcaa.hcaaReturnRows hcaa.returnColumns hcaa.hcaaReturnCells hcaa.pricesRefused hcaa.rowsMade hcaa.columnsMade hcaa.cellsMade hcaa.hcaaCovarianceBy hcaa.hcaaCovariance hcaa.metricOf hcaa.usedMetric hcaa.unnamed hcaa.isMean hcaa.isExponential hcaa.expectedOf hcaa.usedExpected hcaa.clusterCount hcaa.usedRule hcaa.nameLines hcaa.matrixRules hcaa.sharpeLines hcaa.hcaaTable hcaa.hcaaOutcome hcaa.usedInputs metricNamed isSharpe isTailRisk metricTailLines nearest.noPart tail.gain tail.rowReturn tail.tailSum tail.tailCount tail.mean tail.shortfall tail.wealth tail.higher tail.peak tail.fall tail.drawdown tail.conditionalDrawdown tail.shortfallOf tail.drawdownOf ordered.hasMinus ordered.before ordered.insert ordered.insertAll ordered.sorted nearest.wholeOf nearest.place nearest.quantile hierarchy.hcaaRows hierarchy.hcaaOrder hierarchy.hcaaShares hierarchy.roomLines hierarchy.shareLines allot.downShares allot.allotted allot.insideOf allot.variedOf allot.equalOf allot.spreadOf allot.dealTo sharing.splitOf sharing.scored sharing.byRisk sharing.splitBy sharing.bounded inRange every millionthsTable millionthsOutcome millionthsIn millionthsLaid hrp.pricesAlone hrp.hrpReturnRows hrp.hrpReturnCells hrp.hrpCovarianceBy hrp.hrpCovariance hrp.hrpShapeLines hrp.numberLines hrp.hrpTable hrp.hrpOutcome absent rowsOfShape otherColumns otherSize matrixLines parity.correlationsOf parity.hrpDistances parity.treeDistances distancesIn treeRows treeOrder parity.hrpRows parity.hrpOrder parity.hrpShares parity.parityRoomLines parity.hrpRiskLines bisection.factorOf bisection.sidesFactor bisection.halved bisection.bisected bisection.normal bisection.bisectionShares tooBig misfits overLimit otherLength sizes laid first tab grid sumTo sumOn sumRows anyTo range span isNone weightsIn recip recipSum shares term varianceOf outside anyLowOf riskTable sizeTable sharesOutcome varianceOutcome varianceAnswer correlationCell anyLow clamped distanceOf distanceCell offDiagonal square between betweenCell minOf maxOf absOf clampOf finiteOf countOf oneOver root isqrt lt le eq isNan neg add sum sub mul div ofInt round units odd trailingZeros size ieee-span climb ofFields ofBits toBits wholePart leftOver wholeAt leftAt sooner rankOf wholeTotal missing millionthsAt outOfReach millionthsLines upto ceilings.keptAt ceilings.gapAt ceilings.cutTotal ceilings.leftFor ceilings.cappedAt ceilings.cappedIn ceilings.tooLow figuresIn figuresLines
 figures = refl

@@ -1,5 +1,5 @@
 -- No second answer fits: for each public function CRATE::FUNCTION of the libraries a theorem CRATE-FUNCTION on its own contract, which the check reads off its `ensures`: CRATE·FUNCTION.
--- Three functions return a part of a slice, `fields::piece`, `names::name` and `branches::members`: their contracts say what it has, and leave open where it lies.
+-- Four functions return a part of a slice, `fields::piece`, `fields::last_piece`, `names::name` and `branches::members`: their contracts say what it has, and leave open where it lies.
 -- A double is the logic's, which has one NaN. Assumes nothing.
 use Prim.Native.Nat.{ℕ}
 use mathlib.Core.Path.{_≡_, refl, sym, _∙_}
@@ -53,6 +53,7 @@ use Rattle.text.proofs.is_word as text·is-word
 use Rattle.fields.proofs.end_of as fields·end-of
 use Rattle.fields.proofs.count as fields·count
 use Rattle.fields.proofs.piece as fields·piece
+use Rattle.fields.proofs.last_piece as fields·last-piece
 use Rattle.fields.proofs.digit as fields·digit
 use Rattle.fields.proofs.read_bits as fields·read-bits
 use Rattle.fields.proofs.read_numeral as fields·read-numeral
@@ -95,6 +96,7 @@ use Rattle.names.proofs.is_name as names·is-name
 use Rattle.names.proofs.name as names·name
 use Rattle.heading.proofs.clusters_asked as heading·clusters-asked
 use Rattle.heading.proofs.is_priced as heading·is-priced
+use Rattle.heading.proofs.is_ceiled as heading·is-ceiled
 use Rattle.heading.proofs.head as heading·head
 use Rattle.reading.proofs.read_job as reading·read-job
 use Rattle.clusters.proofs.inverse_variance_weights as clusters·inverse-variance-weights
@@ -141,6 +143,10 @@ use Rattle.job.proofs.text_to_listing as job·text-to-listing
 use Rattle.job.proofs.text_to_sheet as job·text-to-sheet
 use Rattle.fractions.proofs.rank_fractions as fractions·rank-fractions
 use Rattle.millionths.proofs.weights_in_millionths as millionths·weights-in-millionths
+use Rattle.ceilings.proofs.are_unlike as ceilings·are-unlike
+use Rattle.ceilings.proofs.under_ceilings as ceilings·under-ceilings
+use Rattle.ceilings.proofs.figures as ceilings·figures
+use Rattle.ceilings.proofs.read_ceiling as ceilings·read-ceiling
 use Rattle.foreign.proofs.number as foreign·number
 use Rattle.foreign.proofs.distance_said as foreign·distance-said
 use Rattle.foreign.proofs.linkage_said as foreign·linkage-said
@@ -355,6 +361,9 @@ fields-count κs a r r′ e e′ p q = (sole p q, refl)
 pub fields-piece : SoleOf fields·piece.ended fields·piece.Reads.Post (λ κs r. now r)
 fields-piece κs a r r′ e e′ p q = (sole p q, refl)
 
+pub fields-last-piece : SoleOf fields·last-piece.ended fields·last-piece.Reads.Post (λ κs r. now r)
+fields-last-piece κs a r r′ e e′ p q = (sole p q, refl)
+
 pub fields-digit : Sole fields·digit.ended fields·digit.Reads.Post
 fields-digit κs a r r′ e e′ p q = (sole p q, refl)
 
@@ -519,13 +528,17 @@ heading-clusters-asked κs a r r′ e e′ p q = (sole p q, refl)
 pub heading-is-priced : Sole heading·is-priced.ended heading·is-priced.Reads.Post
 heading-is-priced κs a r r′ e e′ p q = (sole p q, refl)
 
+pub heading-is-ceiled : Sole heading·is-ceiled.ended heading·is-ceiled.Reads.Post
+heading-is-ceiled κs a r r′ e e′ p q = (sole p q, refl)
+
 pub heading-head : Sole heading·head.ended heading·head.Reads.Post
 heading-head κs a r r′ e e′ p q = (sole p q, refl)
 
 -- ---- reading: a job text read
 
 pub reading-read-job : Sole reading·read-job.ended reading·read-job.Reads.Post
-reading-read-job κs a r r′ e e′ p q = (sole (p .0) (q .0), λ i. (tt, (sole (p .1 .0) (q .1 .0) i, (sole (p .1 .1) (q .1 .1) i, tt))))
+reading-read-job κs a r r′ e e′ p q =
+    (sole (p .answer) (q .answer), λ i. (tt, (sole (p .cells-are) (q .cells-are) i, (sole (p .starts-are) (q .starts-are) i, (sole (p .ceilings-are) (q .ceilings-are) i, tt)))))
 
 -- ---- clusters: risk of a list of assets
 
@@ -651,7 +664,7 @@ hrp-allocate κs a r r′ e e′ p q = (sole (p .answer) (q .answer), kept5 (kep
 pub hcaa-allocate : Sole hcaa·allocate.ended hcaa·allocate.Reads.Post
 hcaa-allocate κs a r r′ e e′ p q = (sole (p .answer) (q .answer), kept5 (kept5 (kept5 (λ i. (tt, four-laid (p .buffers) (q .buffers) i)))))
 
--- ---- fractions, millionths: weights in millionths
+-- ---- fractions, millionths, ceilings: weights in millionths, under ceilings where these are given
 
 pub fractions-rank-fractions : Sole fractions·rank-fractions.ended fractions·rank-fractions.Reads.Post
 fractions-rank-fractions κs a r r′ e e′ p q = (sole (p .0) (q .0), λ i. (tt, (sole (p .1 .0) (q .1 .0) i, (sole (p .1 .1) (q .1 .1) i, tt))))
@@ -659,13 +672,25 @@ fractions-rank-fractions κs a r r′ e e′ p q = (sole (p .0) (q .0), λ i. (t
 pub millionths-weights-in-millionths : Sole millionths·weights-in-millionths.ended millionths·weights-in-millionths.Reads.Post
 millionths-weights-in-millionths κs a r r′ e e′ p q = (sole (p .0) (q .0), λ i. (tt, (sole (p .1) (q .1) i, tt)))
 
+pub ceilings-are-unlike : Sole ceilings·are-unlike.ended ceilings·are-unlike.Reads.Post
+ceilings-are-unlike κs a r r′ e e′ p q = (sole p q, refl)
+
+pub ceilings-under-ceilings : Sole ceilings·under-ceilings.ended ceilings·under-ceilings.Reads.Post
+ceilings-under-ceilings κs a r r′ e e′ p q = (sole (p .0) (q .0), λ i. (sole (p .1) (q .1) i, (tt, tt)))
+
+pub ceilings-figures : Sole ceilings·figures.ended ceilings·figures.Reads.Post
+ceilings-figures κs a r r′ e e′ p q = (sole (p .0) (q .0), λ i. (tt, (tt, (sole (p .1) (q .1) i, tt))))
+
+pub ceilings-read-ceiling : Sole ceilings·read-ceiling.ended ceilings·read-ceiling.Reads.Post
+ceilings-read-ceiling κs a r r′ e e′ p q = (sole p q, refl)
+
 -- ---- listing: the listing of an answer, and the line of a refusal
 
 pub listing-bytes : Sole listing·bytes.ended listing·bytes.Reads.Post
 listing-bytes κs a r r′ e e′ p q = (sole p q, refl)
 
 pub listing-sheet : Sole listing·sheet.ended listing·sheet.Reads.Post
-listing-sheet κs a r r′ e e′ p q = (sole (p .answer) (q .answer), λ i. (tt, (tt, (tt, (tt, (sole (p .bytes-are) (q .bytes-are) i, tt))))))
+listing-sheet κs a r r′ e e′ p q = (sole (p .answer) (q .answer), kept5 (λ i. (sole (p .bytes-are) (q .bytes-are) i, tt)))
 
 pub listing-refusal-line : Sole listing·refusal-line.ended listing·refusal-line.Reads.Post
 listing-refusal-line κs a r r′ e e′ p q = (sole (p .answer) (q .answer), λ i. (tt, (sole (p .bytes-are) (q .bytes-are) i, tt)))
@@ -679,7 +704,7 @@ pub groups-least-sheet : Sole groups·least-sheet.ended groups·least-sheet.Read
 groups-least-sheet κs a r r′ e e′ p q = (sole p q, refl)
 
 pub groups-group-sheet : Sole groups·group-sheet.ended groups·group-sheet.Reads.Post
-groups-group-sheet κs a r r′ e e′ p q = (sole (p .answer) (q .answer), λ i. (tt, (tt, (tt, (tt, (tt, (sole (p .bytes-are) (q .bytes-are) i, tt)))))))
+groups-group-sheet κs a r r′ e e′ p q = (sole (p .answer) (q .answer), kept5 (λ i. (tt, (sole (p .bytes-are) (q .bytes-are) i, tt))))
 
 -- ---- job: a text to its listing or its sheet
 
