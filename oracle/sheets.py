@@ -1,5 +1,5 @@
 #!/usr/bin/env python3
-"""Makes the listings and sheets that the program `sheets` must print, from document 01's words (and document 02's requests 1, 3, 8 and 13) alone.
+"""Makes the listings and sheets that the program `sheets` must print, from document 01's words (and document 02's requests 1, 3, 8, 10 and 13) alone.
 
     oracle/sheets.py            reads crates/sheets/stdin and writes crates/sheets/stdout
     oracle/sheets.py --check    writes nothing: ends with status 1 where crates/sheets/stdout is not what it makes
@@ -359,7 +359,7 @@ def double(cell):
 
 
 def read(text):
-    """The job of a text: the first line's fields, the names, whether the cells are prices, and the rows of cells."""
+    """The job of a text: the first line's fields, the names, whether the cells are prices, the rows of cells, and the ceilings, or None."""
     if len(text) > 65536:
         raise Refused(9)
     lines = text.split(b"\n")
@@ -369,11 +369,13 @@ def read(text):
     first, *rows = [line.split(b"\t") for line in lines]
     if first[0] not in (b"hrp", b"hcaa"):
         raise Refused(15)
-    # "`hrp` and distance; or `hcaa`, metric, linkage, distance, clusters"; request 8: "the first line gains a last field `prices`"
+    # "`hrp` and distance; or `hcaa`, metric, linkage, distance, clusters"; request 8: "the first line gains a last field `prices`"; request 10: "`ceilings` as
+    # the last field of its first line"
     fields = 2 if first[0] == b"hrp" else 5
-    priced = len(first) == fields + 1 and first[fields] == b"prices"
-    if len(first) != fields and not priced:
+    more = first[fields:]
+    if len(first) < fields or more not in ([], [b"prices"], [b"ceilings"], [b"prices", b"ceilings"]):
         raise Refused(15)
+    priced, ceiled = b"prices" in more, b"ceilings" in more
     # "clusters (1 to 9 digits, or `-` for all)"
     if first[0] == b"hcaa" and not re.fullmatch(rb"-|[0-9]{1,9}", first[4]):
         raise Refused(15)
@@ -382,16 +384,33 @@ def read(text):
         if not rows:
             raise Refused(15)
         names, *rows = rows
+        if ceiled:
+            # "in a prices job a line of ceilings follows the names"
+            if not rows or len(rows[0]) != len(names):
+                raise Refused(15)
+            ceilings, *rows = rows
     else:
         # "Then per asset: a name .. and its covariance row"
         names, rows = [name for name, *_ in rows], [row for _, *row in rows]
+        if ceiled:
+            # "each asset's line then ends with its ceiling"
+            if any(not row for row in rows):
+                raise Refused(15)
+            ceilings, rows = [row[-1] for row in rows], [row[:-1] for row in rows]
     for name in names:
         # "a name of 1 to 16 bytes 21 to 7e hex, not `order` or `refused`"
         if not re.fullmatch(rb"[\x21-\x7e]{1,16}", name) or name in (b"order", b"refused"):
             raise Refused(15)
     if any(len(row) != len(names) for row in rows):
         raise Refused(15)
-    return first, names, priced, [[double(cell) for cell in row] for row in rows]
+    return first, names, priced, [[double(cell) for cell in row] for row in rows], [ceiling(field) for field in ceilings] if ceiled else None
+
+
+def ceiling(field):
+    """Request 10: "15 for a ceiling that isn't 1 to 7 digits or is above 1,000,000"."""
+    if not re.fullmatch(rb"[0-9]{1,7}", field) or int(field) > 1000000:
+        raise Refused(15)
+    return int(field)
 
 
 def millionths(weights):
@@ -409,9 +428,24 @@ def millionths(weights):
     return whole
 
 
+def under(ceilings, parts):
+    """Request 10: "cut every asset to its ceiling, then hand the cut total out in asset order, each one filled up to its ceiling". One millionth at a time
+    would be the same; the loop hands out what the first asset with room takes."""
+    if ceilings is None:
+        return parts
+    # "20 .. exactly when no list of whole millionths, none above its ceiling, totals one million"
+    if sum(ceilings) < 1000000:
+        raise Refused(20)
+    cut = [min(part, ceiling) for part, ceiling in zip(parts, ceilings)]
+    while sum(cut) < 1000000:
+        asset = next(i for i in range(len(cut)) if cut[i] < ceilings[i])
+        cut[asset] = min(ceilings[asset], cut[asset] + 1000000 - sum(cut))
+    return cut
+
+
 def allocated(text):
-    """The names, weights, millionths, merge rows and leaf order of a text's job."""
-    first, names, priced, cells = read(text)
+    """The names, weights, millionths, ceilings or None, merge rows and leaf order of a text's job."""
+    first, names, priced, cells, ceilings = read(text)
     linkage = first[2].lower().decode("latin-1") if first[0] == b"hcaa" else "single"
     by = first[3 if first[0] == b"hcaa" else 1].lower().decode("latin-1")
     if linkage not in ("single", "complete", "average", "ward"):
@@ -425,13 +459,16 @@ def allocated(text):
         weights, rows, order = hrp(len(names), priced, cells, by)
     else:
         weights, rows, order = hcaa(len(names), priced, cells, first[1].decode("latin-1"), linkage, by, None if first[4] == b"-" else int(first[4]))
-    return names, weights, millionths(weights), rows, order
+    return names, weights, under(ceilings, millionths(weights)), ceilings, rows, order
 
 
 # ---- what is printed
 
-def listing(names, weights, parts, rows, order):
+def listing(names, weights, parts, ceilings, rows, order):
     lines = [b"\t".join((name, bits(w).encode(), b"%d" % m)) for name, w, m in zip(names, weights, parts)]
+    if ceilings is not None:
+        # "the listing, where ceilings are given, shows it as a fourth field"
+        lines = [b"%s\t%d" % (line, c) for line, c in zip(lines, ceilings)]
     return b"".join(line + b"\n" for line in lines) + b"\t".join([b"order"] + [names[i] for i in order]) + b"\n"
 
 
@@ -444,16 +481,16 @@ def branches(rows, n, node, depth):
 
 
 def line(parts, depth, under):
-    """"depth, size, subtotal of the listing's millionths, tabs between"."""
+    """"depth, size, subtotal of the listing's millionths, tabs between"; request 10: they are after ceilings."""
     return b"%d\t%d\t%d" % (depth, len(under), sum(parts[i] for i in under))
 
 
-def sheet(names, weights, parts, rows, order):
+def sheet(names, weights, parts, ceilings, rows, order):
     n = len(names)
     return b"".join(line(parts, depth, under) + b"\n" for _, depth, under in branches(rows, n, 2 * n - 2, 0))
 
 
-def named_sheet(names, weights, parts, rows, order):
+def named_sheet(names, weights, parts, ceilings, rows, order):
     """The same lines, for a person: each two blanks further in for each node above it, and at the end of a leaf's a tab and the asset's name."""
     n = len(names)
     lines = []

@@ -2,6 +2,7 @@
 pub mod account;
 pub mod buffers;
 pub mod case;
+pub mod ceilings;
 pub mod damage;
 pub mod hcaa;
 pub mod hrp;

@@ -7,8 +7,8 @@ use crate::sheet::{self, Form, Printed, FORMS};
 use crate::texts;
 use openquant::api::Refused;
 
-/// What texts are called whose first line ends in `prices`.
-pub const PRICED: &str = "listing of prices";
+/// What texts are called: by whether their first line ends in `prices`, and in `ceilings` after that or alone.
+pub const KINDS: [&str; 4] = [Listing::NAME, "listing of prices", "listing with ceilings", "listing of prices with ceilings"];
 
 #[derive(Clone)]
 pub struct Listing {
@@ -48,11 +48,6 @@ fn line_of(refusal: u8, desk: &mut Desk, junk: &mut Random) -> Verdict {
 }
 
 impl Listing {
-    /// Whether the first line ends as that of a job by prices.
-    fn is_priced(&self) -> bool {
-        self.text.split(|&b| b == b'\n').next().is_some_and(|line| line.ends_with(b"\tprices"))
-    }
-
     /// The call for a form, in the desk's buffers.
     fn call(&self, form: Form, desk: &mut Desk) -> u8 {
         let (text, bytes) = (desk.bytes[0].at(), desk.bytes[0].len());
@@ -89,11 +84,10 @@ impl Case for Listing {
     const NAME: &'static str = "listing";
 
     fn kind(&self) -> &'static str {
-        if self.is_priced() {
-            PRICED
-        } else {
-            Self::NAME
-        }
+        let first = self.text.split(|&b| b == b'\n').next().unwrap_or_default();
+        let bare = first.strip_suffix(b"\tceilings");
+        let priced = bare.unwrap_or(first).ends_with(b"\tprices");
+        KINDS[2 * bare.is_some() as usize + priced as usize]
     }
 
     fn make(rng: &mut Random) -> Self {
@@ -124,10 +118,11 @@ impl Case for Listing {
         )
     }
 
-    /// A line less, an asset less, a byte less.
+    /// No ceilings, a line less, an asset less, a byte less.
     fn smaller(&self) -> Vec<Self> {
         let mut out = vec![Self { rooms: EXACT, ..self.clone() }];
         let lines: Vec<&[u8]> = self.text.split_inclusive(|&b| b == b'\n').collect();
+        out.extend(without_ceilings(&lines).map(|text| Self { text, ..*self }));
         let narrow = |k: usize, field: usize| if k == 0 { lines[0].to_vec() } else { without(lines[k], field) };
         for gone in 1..lines.len().min(70) {
             let kept = || (0..lines.len()).filter(move |k| *k != gone);
@@ -154,4 +149,16 @@ fn without(line: &[u8], gone: usize) -> Vec<u8> {
     let (cells, end) = line.strip_suffix(b"\n").map_or((line, &b""[..]), |cells| (cells, b"\n"));
     let fields: Vec<&[u8]> = cells.split(|&b| b == b'\t').enumerate().filter(|(k, _)| *k != gone).map(|(_, field)| field).collect();
     [&fields.join(&b'\t')[..], end].concat()
+}
+
+/// The text of these lines without ceilings, where the first says that there are some.
+fn without_ceilings(lines: &[&[u8]]) -> Option<Vec<u8>> {
+    let first = lines.first()?.strip_suffix(b"\tceilings\n")?;
+    let rest = lines.iter().enumerate().skip(1);
+    let rest: Vec<u8> = if first.ends_with(b"\tprices") {
+        rest.filter(|(k, _)| *k != 2).flat_map(|(_, line)| line.to_vec()).collect()
+    } else {
+        rest.flat_map(|(_, line)| without(line, line.iter().filter(|&&b| b == b'\t').count())).collect()
+    };
+    Some([first, b"\n", &rest[..]].concat())
 }

@@ -3,7 +3,7 @@
 use compare::case::{shrunk, Case, Desk, Listed};
 use compare::hcaa::Hcaa;
 use compare::hrp::Hrp;
-use compare::listing::{Listing, PRICED};
+use compare::listing::{Listing, KINDS};
 use compare::mirror::{Mirrors, HEADINGS};
 use compare::random::Random;
 use compare::steps::{Covariance, Leaves, Merge, Roots};
@@ -117,7 +117,8 @@ impl Tally {
     }
 
     fn tell(&self, count: u64) {
-        for name in [Hrp::NAME, Hcaa::NAME, Covariance::NAME, Merge::NAME, Leaves::NAME, Roots::NAME, Listing::NAME, PRICED] {
+        let calls = [Hrp::NAME, Hcaa::NAME, Covariance::NAME, Merge::NAME, Leaves::NAME, Roots::NAME];
+        for name in calls.into_iter().chain(KINDS) {
             let ends: Vec<(u8, u64)> = self.ends.iter().filter(|((call, _), _)| *call == name).map(|(&(_, end), &n)| (end, n)).collect();
             let refused: String = ends.iter().filter(|(end, _)| *end > 0).map(|(end, n)| format!(" {end}:{n}")).collect();
             let done: u64 = ends.iter().filter(|(end, _)| *end == 0).map(|(_, n)| n).sum();
@@ -162,13 +163,13 @@ fn main() -> ExitCode {
     for at in first..first + count {
         AT.store(at, Ordering::Relaxed);
         let mut rng = start(seed, at);
-        match rng.below(100) {
+        match rng.below(106) {
             0..=24 => tally.play::<Hrp>(seed, at, &mut rng, &mut desk),
             25..=57 => tally.play::<Hcaa>(seed, at, &mut rng, &mut desk),
             58..=69 => tally.play::<Merge>(seed, at, &mut rng, &mut desk),
             70..=77 => tally.play::<Leaves>(seed, at, &mut rng, &mut desk),
             78..=81 => tally.play::<Roots>(seed, at, &mut rng, &mut desk),
-            82..=93 => tally.play::<Listing>(seed, at, &mut rng, &mut desk),
+            82..=99 => tally.play::<Listing>(seed, at, &mut rng, &mut desk),
             _ => tally.play::<Covariance>(seed, at, &mut rng, &mut desk),
         }
     }

@@ -46,6 +46,15 @@ struct Job<'a> {
     priced: bool,
     rows: usize,
     cells: Vec<f64>,
+    /// Document 02, request 10: "Each asset's record gains a ceiling in millionths", where the first line says so.
+    ceilings: Option<Vec<u32>>,
+}
+
+/// What a first line says beyond its plan.
+#[derive(Clone, Copy)]
+struct Block {
+    priced: bool,
+    ceiled: bool,
 }
 
 enum Plan<'a> {
@@ -63,23 +72,38 @@ fn fields(line: &[u8]) -> Vec<&[u8]> {
     line.split(|&b| b == b'\t').collect()
 }
 
+/// The number of 1 to so many digits.
+fn digits(field: &[u8], most: usize) -> Option<usize> {
+    let formed = (1..=most).contains(&field.len()) && field.iter().all(u8::is_ascii_digit);
+    formed.then(|| field.iter().fold(0, |n, b| n * 10 + (b - b'0') as usize))
+}
+
 /// "clusters (1 to 9 digits, or `-` for all)": the count, `None` for all.
 fn clusters(field: &[u8]) -> Option<Option<usize>> {
     if field == b"-" {
         return Some(None);
     }
-    let digits = (1..=9).contains(&field.len()) && field.iter().all(u8::is_ascii_digit);
-    digits.then(|| Some(field.iter().fold(0, |n, b| n * 10 + (b - b'0') as usize)))
+    digits(field, 9).map(Some)
 }
 
-/// "First line: `hrp` and distance; or `hcaa`, metric, linkage, distance, clusters"; document 02, request 8: for prices it "gains a last field `prices`".
-fn plan(line: &[u8]) -> Option<(Plan<'_>, bool)> {
-    let hcaa = |metric, linkage, distance, count| Some(Plan::Hcaa { metric, linkage, distance, clusters: clusters(count)? });
+/// Document 02, request 8: for prices the first line "gains a last field `prices`"; request 10: with ceilings it says "`ceilings` as the last field".
+fn block(last: &[&[u8]]) -> Option<Block> {
+    match last {
+        [] => Some(Block { priced: false, ceiled: false }),
+        [b"prices"] => Some(Block { priced: true, ceiled: false }),
+        [b"ceilings"] => Some(Block { priced: false, ceiled: true }),
+        [b"prices", b"ceilings"] => Some(Block { priced: true, ceiled: true }),
+        _ => None,
+    }
+}
+
+/// "First line: `hrp` and distance; or `hcaa`, metric, linkage, distance, clusters", and after these what `block` reads.
+fn plan(line: &[u8]) -> Option<(Plan<'_>, Block)> {
     match fields(line)[..] {
-        [b"hrp", distance] => Some((Plan::Hrp { distance }, false)),
-        [b"hrp", distance, b"prices"] => Some((Plan::Hrp { distance }, true)),
-        [b"hcaa", metric, linkage, distance, count] => Some((hcaa(metric, linkage, distance, count)?, false)),
-        [b"hcaa", metric, linkage, distance, count, b"prices"] => Some((hcaa(metric, linkage, distance, count)?, true)),
+        [b"hrp", distance, ref last @ ..] => Some((Plan::Hrp { distance }, block(last)?)),
+        [b"hcaa", metric, linkage, distance, count, ref last @ ..] => {
+            Some((Plan::Hcaa { metric, linkage, distance, clusters: clusters(count)? }, block(last)?))
+        }
         _ => None,
     }
 }
@@ -122,11 +146,19 @@ fn name(field: &[u8]) -> Option<&[u8]> {
     is_name(field).then_some(field)
 }
 
-/// "Then per asset: a name .. and its covariance row": as many cells as there are assets.
-fn covariance<'a>(plan: Plan<'a>, lines: &[&'a [u8]]) -> Option<Job<'a>> {
-    let mut job = Job { plan, names: Vec::new(), priced: false, rows: lines.len(), cells: Vec::new() };
+/// "15 for a ceiling that isn't 1 to 7 digits or is above 1,000,000".
+fn ceiling(field: &[u8]) -> Option<u32> {
+    digits(field, 7).filter(|&n| n <= 1_000_000).map(|n| n as u32)
+}
+
+/// "Then per asset: a name .. and its covariance row": as many cells as there are assets. With ceilings "each asset's line then ends with its ceiling".
+fn covariance<'a>(plan: Plan<'a>, ceiled: bool, lines: &[&'a [u8]]) -> Option<Job<'a>> {
+    let mut job = Job { plan, names: Vec::new(), priced: false, rows: lines.len(), cells: Vec::new(), ceilings: ceiled.then(Vec::new) };
     for line in lines {
-        let fields = fields(line);
+        let mut fields = fields(line);
+        if let Some(ceilings) = &mut job.ceilings {
+            ceilings.push(ceiling(fields.pop()?)?);
+        }
         if fields.len() != lines.len() + 1 {
             return None;
         }
@@ -138,10 +170,22 @@ fn covariance<'a>(plan: Plan<'a>, lines: &[&'a [u8]]) -> Option<Job<'a>> {
     Some(job)
 }
 
-/// Document 02, request 8: "a line of names, then one line of cells for each day".
-fn prices<'a>(plan: Plan<'a>, lines: &[&'a [u8]]) -> Option<Job<'a>> {
-    let (first, days) = lines.split_first()?;
+/// One for each name, on the line after the names.
+fn line_of_ceilings(line: &[u8], names: usize) -> Option<Vec<u32>> {
+    let ceilings = fields(line).into_iter().map(ceiling).collect::<Option<Vec<_>>>()?;
+    (ceilings.len() == names).then_some(ceilings)
+}
+
+/// Document 02, request 8: "a line of names, then one line of cells for each day"; request 10: "a line of ceilings follows the names".
+fn prices<'a>(plan: Plan<'a>, ceiled: bool, lines: &[&'a [u8]]) -> Option<Job<'a>> {
+    let (first, mut days) = lines.split_first()?;
     let names = fields(first).into_iter().map(name).collect::<Option<Vec<_>>>()?;
+    let mut ceilings = None;
+    if ceiled {
+        let (line, rest) = days.split_first()?;
+        ceilings = Some(line_of_ceilings(line, names.len())?);
+        days = rest;
+    }
     let mut cells = Vec::new();
     for day in days {
         let fields = fields(day);
@@ -152,17 +196,17 @@ fn prices<'a>(plan: Plan<'a>, lines: &[&'a [u8]]) -> Option<Job<'a>> {
             cells.push(cell(field)?);
         }
     }
-    Some(Job { plan, names, priced: true, rows: days.len(), cells })
+    Some(Job { plan, names, priced: true, rows: days.len(), cells, ceilings })
 }
 
 /// "lines ended by a newline, fields parted by tabs"; what a first line says, and its block.
 fn read(text: &[u8]) -> Option<Job<'_>> {
     let lines: Vec<&[u8]> = text.strip_suffix(b"\n")?.split(|&b| b == b'\n').collect();
-    let (plan, priced) = plan(lines[0])?;
+    let (plan, Block { priced, ceiled }) = plan(lines[0])?;
     if priced {
-        prices(plan, &lines[1..])
+        prices(plan, ceiled, &lines[1..])
     } else {
-        covariance(plan, &lines[1..])
+        covariance(plan, ceiled, &lines[1..])
     }
 }
 
@@ -277,12 +321,32 @@ fn millionths(weights: &[f64]) -> Result<Vec<u32>, u8> {
     Ok(whole)
 }
 
-/// "name, weight bits, millionths, then the leaf order".
+/// Document 02, request 10: "cut every asset to its ceiling, then hand the cut total out in asset order, each one filled up to its ceiling"; "20, after 18,
+/// exactly when no list of whole millionths, none above its ceiling, totals one million".
+fn under(ceilings: &[u32], mut parts: Vec<u32>) -> Result<Vec<u32>, u8> {
+    if ceilings.iter().sum::<u32>() < 1_000_000 {
+        return Err(20);
+    }
+    let mut cut = 0;
+    for (part, &ceiling) in parts.iter_mut().zip(ceilings) {
+        cut += part.saturating_sub(ceiling);
+        *part = ceiling.min(*part);
+    }
+    for (part, &ceiling) in parts.iter_mut().zip(ceilings) {
+        let more = cut.min(ceiling - *part);
+        *part += more;
+        cut -= more;
+    }
+    Ok(parts)
+}
+
+/// "name, weight bits, millionths, then the leaf order"; "where ceilings are given", each is "a fourth field".
 fn listing(job: &Job, answer: &Answer, parts: &[u32]) -> Vec<u8> {
     let mut out = Vec::new();
-    for (name, (weight, part)) in job.names.iter().zip(answer.weights.iter().zip(parts)) {
-        out.extend_from_slice(name);
-        out.extend_from_slice(format!("\t{:016x}\t{part}\n", weight.to_bits()).as_bytes());
+    for (asset, (weight, part)) in answer.weights.iter().zip(parts).enumerate() {
+        let ceiling = job.ceilings.as_ref().map_or_else(String::new, |ceilings| format!("\t{}", ceilings[asset]));
+        out.extend_from_slice(job.names[asset]);
+        out.extend_from_slice(format!("\t{:016x}\t{part}{ceiling}\n", weight.to_bits()).as_bytes());
     }
     out.extend_from_slice(b"order");
     for &asset in &answer.order {
@@ -334,9 +398,12 @@ fn named_sheet(lines: &[Line]) -> Vec<u8> {
     out
 }
 
-/// 13 and 18 are the listing's, whatever is printed.
+/// 13, 18 and 20 are the listing's, whatever is printed.
 fn forms(job: &Job, answer: &Answer) -> Result<Printed, Refused> {
-    let parts = millionths(&answer.weights)?;
+    let mut parts = millionths(&answer.weights)?;
+    if let Some(ceilings) = &job.ceilings {
+        parts = under(ceilings, parts)?;
+    }
     let lines = branch(&job.names, &answer.rows, &parts, 2 * job.names.len() - 2, 0);
     Ok(Printed([listing(job, answer, &parts), sheet(&lines), named_sheet(&lines)]))
 }
@@ -346,7 +413,7 @@ pub fn refusal_line(number: u8) -> Vec<u8> {
     format!("refused\t{number}\n").into_bytes()
 }
 
-/// "Order: 9, 15, 8, 7, the allocator's, 13", and document 02's 18.
+/// "Order: 9, 15, 8, 7, the allocator's, 13", and document 02's 18 and 20.
 fn answered(text: &[u8]) -> Result<Due<Printed>, u8> {
     if text.len() > MOST_BYTES {
         return Err(9);
@@ -361,6 +428,12 @@ pub fn printed(text: &[u8]) -> Due<Printed> {
     answered(text).unwrap_or_else(|number| Due { answer: Err(number.into()), beside: Beside::Same })
 }
 
+/// The millionths of a text's job before ceilings, where there are any.
+pub fn figures(text: &[u8]) -> Option<Vec<u32>> {
+    let answer = read(text)?.allocated().ok()?.answer.ok()?;
+    millionths(&answer.weights).ok()
+}
+
 /// What a call for one form is due, of what is printed of its text: 11 comes after the text's 9 and before the rest.
 pub fn due<'a>(text: &[u8], form: Form, rooms: [usize; 2], printed: &'a Result<Printed, Refused>) -> Result<&'a [u8], u8> {
     if text.len() <= MOST_BYTES && (rooms[0] < form.room() || rooms[1] < 1) {
@@ -371,7 +444,7 @@ pub fn due<'a>(text: &[u8], form: Form, rooms: [usize; 2], printed: &'a Result<P
 
 #[cfg(test)]
 mod tests {
-    use super::{cell, decimal, due, millionths, printed, Form, FORMS};
+    use super::{ceiling, cell, decimal, due, figures, millionths, printed, under, Form, FORMS};
     use crate::random::Random;
 
     /// The number, or 0, and what is printed, in buffers of just the size that is needed.
@@ -431,6 +504,124 @@ C\t0000000000000000\t0000000000000000\t3ff0000000000000
         assert_eq!(sheets(one), ["0\t1\t1000000\n", "0\t1\t1000000\tSIXTEEN-LETTERS-\n"]);
     }
 
+    /// A job by its covariance with the first of these ceilings.
+    fn ceiled(job: &str, ceilings: &[&str]) -> String {
+        let lasts = [&["ceilings"], ceilings].concat();
+        job.lines().zip(lasts).map(|(line, last)| format!("{line}\t{last}\n")).collect()
+    }
+
+    #[test]
+    fn a_job_with_ceilings() {
+        let (quarter, half) = ("3fd0000000000000", "3fe0000000000000");
+        let rows = |a: &str, b: &str, c: &str| format!("A\t{quarter}\t{a}\nB\t{quarter}\t{b}\nC\t{half}\t{c}\norder\tC\tA\tB\n");
+        for (ceilings, due) in [
+            (["1000000"; 3], rows("250000\t1000000", "250000\t1000000", "500000\t1000000")),
+            (["250000", "0250000", "500000"], rows("250000\t250000", "250000\t250000", "500000\t500000")),
+            (["300000", "0300000", "400000"], rows("300000\t300000", "300000\t300000", "400000\t400000")),
+            (["300000", "1000000", "400000"], rows("300000\t300000", "300000\t1000000", "400000\t400000")),
+            (["1000000", "1000000", "0400000"], rows("350000\t1000000", "250000\t1000000", "400000\t400000")),
+            (["0000000", "1", "999999"], rows("0\t0", "1\t1", "999999\t999999")),
+            (["0", "00", "1000000"], rows("0\t0", "0\t0", "1000000\t1000000")),
+        ] {
+            assert_eq!(said(&ceiled(&job("-"), &ceilings)), (0, due), "{ceilings:?}");
+        }
+        // The sheet is of the millionths after ceilings.
+        let sheet = |ceilings: [&str; 3]| said_as(Form::Sheet, &ceiled(&job("1"), &ceilings)).1;
+        assert_eq!(sheet(["1000000"; 3]), said_as(Form::Sheet, &job("1")).1);
+        assert_eq!(sheet(["333333", "1000000", "300000"]), "0\t3\t1000000\n1\t1\t300000\n1\t2\t700000\n2\t1\t333333\n2\t1\t366667\n");
+        for ceilings in [["0"; 3], ["333333"; 3], ["0", "0", "999999"], ["499999", "500000", "0"]] {
+            for form in FORMS {
+                assert_eq!(said_as(form, &ceiled(&job("-"), &ceilings)), (20, String::new()));
+            }
+        }
+        assert_eq!(figures(ceiled(&job("-"), &["0"; 3]).as_bytes()), Some(vec![250_000, 250_000, 500_000]));
+    }
+
+    /// The same as each millionth that is cut off given to the first who has room for it, and 20 where nobody has.
+    #[test]
+    fn millionths_under_ceilings() {
+        let mut rng = Random::new(10);
+        for round in 0..200 {
+            let n = 1 + rng.below(6);
+            let parts = crate::ceilings::parts(&mut rng, n, 1_000_000);
+            let ceilings: Vec<u32> =
+                parts.iter().map(|&part| (part + rng.below(900) as u32).saturating_sub(round).min(1_000_000)).collect();
+            let mut due: Vec<u32> = parts.iter().zip(&ceilings).map(|(&part, &ceiling)| part.min(ceiling)).collect();
+            while due.iter().sum::<u32>() < 1_000_000 {
+                let Some(asset) = (0..n).find(|&i| due[i] < ceilings[i]) else { break };
+                due[asset] += 1;
+            }
+            let full = due.iter().sum::<u32>() == 1_000_000;
+            assert_eq!(under(&ceilings, parts.clone()), if full { Ok(due) } else { Err(20) }, "{parts:?} {ceilings:?}");
+        }
+    }
+
+    #[test]
+    fn ceilings() {
+        for (w, due) in
+            [("0", 0), ("7", 7), ("0000000", 0), ("0000012", 12), ("100000", 100_000), ("0999999", 999_999), ("1000000", 1_000_000)]
+        {
+            assert_eq!(ceiling(w.as_bytes()), Some(due), "{w}");
+        }
+        let none = ["", "-", "-0", "+1", "1.0", ".5", "5.", "1e5", " 1", "1 ", "1\r", "1,0", "1_0", "0x1", "a", "/", ":", "\u{661}"];
+        for w in none.iter().chain(&["00000000", "01000000", "1000001", "9999999", "10000000", "4294967297", "3ff0000000000000"]) {
+            assert_eq!(ceiling(w.as_bytes()), None, "{w}");
+        }
+    }
+
+    #[test]
+    fn places_of_ceilings() {
+        for (text, due) in [
+            ("hrp\tcorrelation\tceilings\nA\t1\t1000000\n", 0),
+            ("hrp\tcorrelation\tceilings\nA\t1\t999999\n", 20),
+            ("hrp\tcorrelation\tceilings\nA\t1\t1000001\n", 15),
+            ("hrp\tcorrelation\tceilings\nA\t1\n", 15),
+            ("hrp\tcorrelation\tceilings\nA\n", 15),
+            ("hrp\tcorrelation\tceilings\nA\t1\t1000000\t1000000\n", 15),
+            ("hrp\tcorrelation\tceilings\nA\t1000000\t1\n", 20),
+            ("hrp\tcorrelation\tceilings\nA\t1\t0\t500000\nB\t0\t1\t500000\n", 0),
+            ("hrp\tcorrelation\tceilings\nA\t1\t0\t500000\nB\t0\t1\n", 15),
+            ("hrp\tcorrelation\nA\t1\t1000000\n", 15),
+            ("hrp\tcorrelation\tceilings\n", 1),
+            ("hrp\tcorrelation\tceilings\n1000000\nA\t1\n", 15),
+            // Its first line.
+            ("hrp\tceilings\nA\t1\n", 7),
+            ("hrp\tceilings\nA\t1\t1000000\n", 15),
+            ("hrp\tceilings\tceilings\nA\t1\t0\n", 7),
+            ("hrp\tcorrelation\tCeilings\nA\t1\t1000000\n", 15),
+            ("hrp\tcorrelation\tceiling\nA\t1\t1000000\n", 15),
+            ("hrp\tcorrelation\tceilings\t\nA\t1\t1000000\n", 15),
+            ("hrp\tcorrelation\tceilings\tceilings\nA\t1\t1000000\n", 15),
+            ("hrp\tcorrelation\tceilings\tprices\nA\n1000000\n1\n2\n1\n", 15),
+            ("hcaa\tequal_weighting\tward\tcorrelation\tceilings\nA\t1\t1000000\n", 15),
+            ("hcaa\tequal_weighting\tward\tcorrelation\t-\tceilings\nA\t1\t1000000\n", 0),
+            ("hcaa\tequal_weighting\tward\tcorrelation\tceilings\t-\nA\t1\t1000000\n", 15),
+            // Prices.
+            ("hrp\tcorrelation\tprices\tceilings\nA\n1000000\n1\n2\n1\n", 0),
+            ("hrp\tcorrelation\tprices\tceilings\nA\n0999999\n1\n2\n1\n", 20),
+            ("hrp\tcorrelation\tprices\tceilings\nA\n01000000\n1\n2\n1\n", 15),
+            ("hrp\tcorrelation\tprices\tceilings\nA\n1\n2\n1\n", 1),
+            ("hrp\tcorrelation\tprices\tceilings\n", 15),
+            ("hrp\tcorrelation\tprices\tceilings\nA\n", 15),
+            ("hrp\tcorrelation\tprices\tceilings\nA\n1000000\n", 1),
+            ("hrp\tcorrelation\tprices\tceilings\nA\n1000000\t0\n1\n2\n1\n", 15),
+            ("hrp\tcorrelation\tprices\tceilings\nA\tB\n1000000\n1\t2\n2\t1\n1\t4\n", 15),
+            ("hrp\tcorrelation\tprices\tceilings\nA\tB\n1000000\t0\n1\t2\n2\t1\n1\t4\n", 0),
+            ("hrp\tcorrelation\tprices\tceilings\n1000000\nA\n1\n2\n1\n", 15),
+            ("hrp\tcorrelation\tprices\nA\n1000000\n1\n2\n1\n", 0),
+            // Before 20.
+            ("hcaa\tx\tx\tx\t-\tceilings\nA\t1\t0\n", 8),
+            ("hcaa\tx\tward\tx\t-\tceilings\nA\t1\t0\n", 7),
+            ("hcaa\tx\tward\tcorrelation\t-\tceilings\nA\t1\t0\n", 2),
+            ("hcaa\tequal_weighting\tward\tcorrelation\t2\tceilings\nA\t1\t0\n", 6),
+            ("hcaa\tsharpe_ratio\tward\tcorrelation\t-\tceilings\nA\t1\t0\n", 4),
+            ("hcaa\texpected_shortfall\tward\tcorrelation\t-\tceilings\nA\t1\t0\n", 16),
+            ("hrp\tcorrelation\tceilings\nA\t0\t0\n", 1),
+        ] {
+            assert_eq!(number(text), due, "{text:?}");
+        }
+    }
+
     #[test]
     fn refusals_of_every_form() {
         let far = "7ff0000000000000";
@@ -438,8 +629,20 @@ C\t0000000000000000\t0000000000000000\t3ff0000000000000
         let tiny = "000730d67819e8d2";
         let lost = format!("hcaa\tminimum_variance\tsingle\tcorrelation\t1\nA\t{tiny}\t0\nB\t0\t{tiny}\n");
         let over = "\n".repeat(65_537);
-        let texts =
-            [(&over[..], 9), ("", 15), ("hcaa\tx\tx\tx\t-\n", 8), ("hrp\tx\n", 7), ("hrp\tcorrelation\n", 1), (&nans, 13), (&lost, 18)];
+        // Where nobody may hold anything, 20 comes after both.
+        let [nothing_nans, nothing_lost] = [&nans, &lost].map(|text| ceiled(text, &["0"; 4]));
+        let texts = [
+            (&over[..], 9),
+            ("", 15),
+            ("hcaa\tx\tx\tx\t-\n", 8),
+            ("hrp\tx\n", 7),
+            ("hrp\tcorrelation\n", 1),
+            (&nans, 13),
+            (&nothing_nans, 13),
+            (&lost, 18),
+            (&nothing_lost, 18),
+            ("hrp\tcorrelation\tceilings\nA\t1\t0\n", 20),
+        ];
         for form in FORMS {
             for (text, number) in texts {
                 assert_eq!(said_as(form, text), (number, String::new()));
@@ -629,5 +832,8 @@ C\t0000000000000000\t0000000000000000\t3ff0000000000000
         }
         let covariance = |n: usize| number(&format!("hrp\tcorrelation\n{}", format!("A\t{}", line("1", n)).repeat(n)));
         assert_eq!((covariance(64), covariance(65)), (0, 9));
+        // With ceilings of 1 each.
+        let ceiled = |n: usize| number(&format!("hrp\tcorrelation\tceilings\n{}", format!("A\t{}", line("1", n + 1)).repeat(n)));
+        assert_eq!((ceiled(64), ceiled(65)), (20, 9));
     }
 }

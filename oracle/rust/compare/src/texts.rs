@@ -1,4 +1,5 @@
 //! Job texts: well formed, and damaged in every way.
+use crate::ceilings;
 use crate::kinds::{any_tree, filled};
 use crate::matrices;
 use crate::names;
@@ -7,11 +8,11 @@ use crate::random::Random;
 pub const MOST_BYTES: usize = 65_536;
 
 /// A line's fields.
-type Line = Vec<Vec<u8>>;
+pub type Line = Vec<Vec<u8>>;
 
 /// Mostly any bytes that a name may have; else what could be a cell, a count or a first line's word.
 fn name(rng: &mut Random) -> Vec<u8> {
-    let words: [&[u8]; 8] = [b"prices", b"hrp", b"-", b"Order", b"3ff0000000000000", b"1", b"-2.50", b"0.5"];
+    let words: [&[u8]; 10] = [b"prices", b"ceilings", b"hrp", b"-", b"Order", b"3ff0000000000000", b"1", b"1000000", b"-2.50", b"0.5"];
     if rng.below(10) == 0 {
         return rng.pick(&words).into();
     }
@@ -52,7 +53,7 @@ fn first_line(rng: &mut Random, n: usize, priced: bool) -> Line {
 
 /// How the cells of a text are written.
 #[derive(Clone, Copy)]
-enum Hand {
+pub enum Hand {
     Hex,
     /// Decimals with so many digits after the point.
     Places(usize),
@@ -212,7 +213,7 @@ fn prices(rng: &mut Random, days: usize, n: usize) -> Vec<f64> {
 }
 
 /// The lines of a job of so many assets by its prices.
-fn by_prices(rng: &mut Random, n: usize, days: usize, hand: Hand) -> Vec<Line> {
+pub fn by_prices(rng: &mut Random, n: usize, days: usize, hand: Hand) -> Vec<Line> {
     let cells = prices(rng, days, n);
     let mut out = vec![first_line(rng, n, true), (0..n).map(|_| name(rng)).collect()];
     for day in 0..days {
@@ -221,7 +222,7 @@ fn by_prices(rng: &mut Random, n: usize, days: usize, hand: Hand) -> Vec<Line> {
     out
 }
 
-fn joined(lines: &[Line]) -> Vec<u8> {
+pub fn joined(lines: &[Line]) -> Vec<u8> {
     let mut out = Vec::new();
     for line in lines {
         out.extend(line.join(&b'\t'));
@@ -301,25 +302,40 @@ fn damage_names(rng: &mut Random, lines: &mut [Line]) {
     let which = 1 + rng.below(3);
     for (k, &at) in places.iter().enumerate() {
         if which >> k & 1 != 0 && at < lines[0].len() {
-            lines[0][at] = rng.pick(&["correlations", "wards", "", "prices", "hrp", "-"]).into();
+            lines[0][at] = rng.pick(&["correlations", "wards", "", "prices", "ceilings", "hrp", "-"]).into();
         }
     }
 }
 
-/// The first line's `prices` is misspelled, elsewhere, twice, gone, or there where no prices follow.
-fn damage_prices(rng: &mut Random, lines: &mut [Line]) {
-    let line = &mut lines[0];
-    let odd: [&[u8]; 9] = [b"Prices", b"PRICES", b"price", b"pricess", b" prices", b"prices ", b"prices\r", b"", b"covariance"];
+/// A word in another case, with a letter too few or too many, with what is not seen, or not there.
+fn misspelled(rng: &mut Random, word: &str) -> Vec<u8> {
+    let (first, rest) = word.split_at(1);
+    let odd = [
+        first.to_uppercase() + rest,
+        word.to_uppercase(),
+        word[..word.len() - 1].into(),
+        format!("{word}s"),
+        format!(" {word}"),
+        format!("{word} "),
+        format!("{word}\r"),
+        String::new(),
+        "covariance".into(),
+    ];
+    odd[rng.below(odd.len())].clone().into()
+}
+
+/// The first line's last word, `prices` or `ceilings`, is misspelled, elsewhere, twice, gone, or there where no such thing follows.
+pub fn damage_word(rng: &mut Random, line: &mut Line, word: &str) {
     match rng.below(8) {
-        0..=2 => *line.last_mut().expect("a field") = rng.pick(&odd).into(),
-        3 => line.push(rng.pick(&odd).into()),
-        4 => line.push(b"prices".to_vec()),
+        0..=2 => *line.last_mut().expect("a field") = misspelled(rng, word),
+        3 => line.push(misspelled(rng, word)),
+        4 => line.push(word.into()),
         5 => {
             line.pop();
         }
         6 => {
             let at = rng.below(line.len());
-            line[at] = b"prices".to_vec();
+            line[at] = word.into();
         }
         _ => {
             let (from, to) = (line.len() - 1, rng.below(line.len()));
@@ -388,7 +404,7 @@ fn damage_lines(rng: &mut Random, lines: &mut Vec<Line>) {
         19 if lines.len() > 1 => {
             lines.remove(1);
         }
-        _ => damage_prices(rng, lines),
+        _ => damage_word(rng, &mut lines[0], "prices"),
     }
 }
 
@@ -460,9 +476,10 @@ const EDGES: [(usize, usize); 20] = [
 ];
 
 /// Of about as many assets, cells or bytes as a text may have: well formed, and often damaged.
-fn large(rng: &mut Random) -> Vec<u8> {
+fn large(rng: &mut Random, ceiled: bool) -> Vec<u8> {
     let short = Hand::Places(rng.pick(&[0, 1, 2, 3]));
-    let mut lines = match rng.below(6) {
+    let kind = rng.below(6);
+    let mut lines = match kind {
         0 => {
             let (n, hand) = (rng.pick(&[61, 62, 63, 64, 65]), hand(rng));
             by_covariance(rng, n, hand)
@@ -475,20 +492,22 @@ fn large(rng: &mut Random) -> Vec<u8> {
             let (n, days) = rng.pick(&EDGES);
             by_prices(rng, n, days, short)
         }
-        // Just within 65,536 bytes, or over.
         4 => {
             let n = rng.pick(&[61, 62, 63, 64]);
-            let mut lines = by_prices(rng, n, 4000 / n, Hand::Places(2));
-            lengthen(rng, &mut lines, 0);
-            lines
+            by_prices(rng, n, 4000 / n, Hand::Places(2))
         }
         _ => {
             let n = rng.pick(&[63, 64]);
-            let mut lines = by_covariance(rng, n, Hand::Places(4));
-            lengthen(rng, &mut lines, 1);
-            lines
+            by_covariance(rng, n, Hand::Places(4))
         }
     };
+    if ceiled {
+        ceilings::put(rng, &mut lines);
+    }
+    // Just within 65,536 bytes, or over.
+    if kind > 3 {
+        lengthen(rng, &mut lines, kind - 4);
+    }
     if rng.below(4) == 0 {
         damage_names(rng, &mut lines);
     }
@@ -496,10 +515,11 @@ fn large(rng: &mut Random) -> Vec<u8> {
 }
 
 /// Texts that are not a job's, about as long as a text may be.
-fn long(rng: &mut Random) -> Vec<u8> {
+fn long(rng: &mut Random, ceiled: bool) -> Vec<u8> {
+    let (word, line) = if ceiled { ("\tceilings", "1000000\n") } else { ("", "") };
     let mut text = match rng.below(4) {
-        0 => b"hrp\tcorrelation\n".to_vec(),
-        1 => b"hrp\tcorrelation\tprices\nA\n1\n2\n".to_vec(),
+        0 => format!("hrp\tcorrelation{word}\n").into(),
+        1 => format!("hrp\tcorrelation\tprices{word}\nA\n{line}1\n2\n").into(),
         2 => vec![b'\n'; 65_000],
         _ => joined(&vec![vec![b"A".to_vec(), b"3ff0000000000000".to_vec()]; 65]),
     };
@@ -514,9 +534,9 @@ fn noise(rng: &mut Random) -> Vec<u8> {
 }
 
 /// A first line, right or nearly, and after it a few lines of what could be names or cells.
-fn scraps(rng: &mut Random) -> Vec<u8> {
+fn scraps(rng: &mut Random, ceiled: bool) -> Vec<u8> {
     let fronts = ["hrp", "hrp\tcorrelation", "hrp\tprices", "hcaa\tequal_weighting\tsingle\tcorrelation", "prices", "hrp\t"];
-    let ends = [
+    let plain = [
         "",
         "\tprices",
         "\tprices\tprices",
@@ -529,7 +549,22 @@ fn scraps(rng: &mut Random) -> Vec<u8> {
         "\tPrices",
         "\tprices ",
     ];
-    let fields = ["A", "B", "7", "1", "2.5", "-3", "0", "4", "3ff0000000000000", "1", "2", "8", "16", "order", "", "5."];
+    let with_ceilings = [
+        "\tceilings",
+        "\tprices\tceilings",
+        "\tceilings\tceilings",
+        "\tceilings\tprices",
+        "\t-\tceilings",
+        "\t1\tprices\tceilings",
+        "\t-\tceilings\tprices",
+        "\tceilings\t-",
+        "\tprices\tprices\tceilings",
+        "\tCeilings",
+        "\tceilings ",
+    ];
+    let ends = if ceiled { with_ceilings } else { plain };
+    let [a, b, c] = if ceiled { ["1000000", "500000", "0600000"] } else { ["7", "2.5", "-3"] };
+    let fields = ["A", "B", a, "1", b, c, "0", "4", "3ff0000000000000", "1", "2", "8", "16", "order", "", "5."];
     let most = rng.pick(&[8, 13, 16]);
     let mut text = format!("{}{}\n", rng.pick(&fronts), rng.pick(&ends));
     let wide = 1 + rng.below(3);
@@ -561,7 +596,10 @@ fn days(rng: &mut Random) -> usize {
 }
 
 /// The text of these lines, mostly as they are.
-fn damaged(rng: &mut Random, mut lines: Vec<Line>) -> Vec<u8> {
+pub fn damaged(rng: &mut Random, mut lines: Vec<Line>) -> Vec<u8> {
+    if lines[0].last().is_some_and(|last| last == b"ceilings") && rng.below(6) == 0 {
+        ceilings::damage(rng, &mut lines);
+    }
     if rng.below(7) == 0 {
         damage_lines(rng, &mut lines);
     }
@@ -575,26 +613,32 @@ fn damaged(rng: &mut Random, mut lines: Vec<Line>) -> Vec<u8> {
     text
 }
 
-pub fn text(rng: &mut Random) -> Vec<u8> {
-    match rng.below(300) {
-        0 => return long(rng),
-        1..=3 => return large(rng),
-        4..=8 => return noise(rng),
-        9..=20 => return scraps(rng),
-        21..=32 => {
-            let lines = by_tree(rng);
-            return damaged(rng, lines);
-        }
-        _ => {}
-    }
+/// The lines of a job of few assets, mostly, by a covariance or by prices.
+pub fn by_either(rng: &mut Random) -> Vec<Line> {
     let (n, hand) = (assets(rng), hand(rng));
-    let mut lines = if rng.below(2) == 0 {
-        by_covariance(rng, n, hand)
-    } else {
-        let days = days(rng);
-        by_prices(rng, n.max(1), days, hand)
+    if rng.below(2) == 0 {
+        return by_covariance(rng, n, hand);
+    }
+    let days = days(rng);
+    by_prices(rng, n.max(1), days, hand)
+}
+
+/// A third of them with ceilings.
+pub fn text(rng: &mut Random) -> Vec<u8> {
+    let ceiled = rng.below(3) == 0;
+    let kind = rng.below(300);
+    let mut lines = match kind {
+        0 => return long(rng, ceiled),
+        1..=3 => return large(rng, ceiled),
+        4..=8 => return noise(rng),
+        9..=20 => return scraps(rng, ceiled),
+        21..=32 => by_tree(rng),
+        _ => by_either(rng),
     };
-    if rng.below(40) == 0 {
+    if ceiled {
+        ceilings::put(rng, &mut lines);
+    }
+    if kind > 32 && rng.below(40) == 0 {
         damage_names(rng, &mut lines);
     }
     damaged(rng, lines)
@@ -602,7 +646,7 @@ pub fn text(rng: &mut Random) -> Vec<u8> {
 
 #[cfg(test)]
 mod tests {
-    use super::{joined_by, some_tree};
+    use super::{joined_by, some_tree, text};
     use crate::random::Random;
     use nalgebra::DMatrix;
     use openquant::api::{corr_to_distances, linkage_children, Linkage, Measure};
@@ -619,5 +663,13 @@ mod tests {
                 assert_eq!(linkage_children(&distances, linkage), due, "{n} {linkage:?}");
             }
         }
+    }
+
+    #[test]
+    fn a_third_of_the_texts() {
+        let mut rng = Random::new(3);
+        let says = |text: &[u8]| text.split(|&b| b == b'\n').next().is_some_and(|line| line.ends_with(b"\tceilings"));
+        let count = (0..3000).filter(|_| says(&text(&mut rng))).count();
+        assert!((800..1000).contains(&count), "{count}");
     }
 }

@@ -328,7 +328,8 @@ fn sheet(n: usize, block: &str) {
     }
 }
 
-/// As many assets as a text in hex has room for: the same covariance in hex, in decimals of about as many bytes, and in shorter ones; and the sheet of the first.
+/// As many assets as a text in hex has room for: the same covariance in hex, in decimals of about as many bytes, and in shorter ones; the sheet of the first; and
+/// the second with ceilings, which the first has no room for: of 10 percent each, which nobody is above, and of 2 percent, which some are.
 fn covariance_texts(rng: &mut Random) {
     let n = 62;
     let cells = covariance(rng, n);
@@ -336,7 +337,11 @@ fn covariance_texts(rng: &mut Random) {
     let hex = lines(cells.chunks(n), front, |x| format!("{:016x}", x.to_bits()));
     listing("listing", n, &hex, "");
     sheet(n, &hex);
-    listing("listing_decimals_13", n, &lines(cells.chunks(n), front, |x| format!("{x:.13}")), "");
+    let decimals = lines(cells.chunks(n), front, |x| format!("{x:.13}"));
+    listing("listing_decimals_13", n, &decimals, "");
+    for (what, last) in [("listing_ceilings_10", "\t100000\n"), ("listing_ceilings_2", "\t20000\n")] {
+        listing(what, n, &decimals.replace('\n', last), "\tceilings");
+    }
     listing("listing_decimals_6", n, &lines(cells.chunks(n), front, |x| format!("{x:.6}")), "");
 }
 
