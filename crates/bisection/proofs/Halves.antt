@@ -2,11 +2,11 @@
 use Prim.Native.Nat.{ℕ, zero, suc, _+_, _-_, _<_, _≤_}
 use mathlib.Core.Path.{_≡_, refl, sym, ap, subst, _∙_}
 use mathlib.Core.Bool.{Bool, true, false, cond}
-use mathlib.Core.List.{List, [], _∷_, _++_}
+use mathlib.Core.List.{List, [], _∷_}
 use native.Mathlib.Nat.{not-suc-le-zero, le-refl, le-antisymm}
 use native.Mathlib.Omega.{arith}
 use lib.ListN.{length, getD, set, take, drop, length-drop, length-set, length-replicate}
-use lib.Seq.{length-take-le, take-all, getD-take, getD-drop, getD-append-add}
+use lib.Seq.{length-take-le, take-all, getD-take, getD-drop}
 use lib.Ieee.{Float, nan, binary64, mul, sub, div, lt}
 use Rattle.arithmetic.specs.Constants.{pz, unit}
 use Rattle.refusal.specs.declared.Refusal.{Refusal}
@@ -153,16 +153,6 @@ module _ (cov : List Float) (n : ℕ) (part : List ℕ) (w : Float) (ws : List F
         ∙ sym (went ∙ ap (λ (b : Bool). second (told b mid)) q)
 
 -- ---- dividing in place
-
--- an entry that is not written yet
-pub unwritten : (d l : List Float) (f : ℕ → Float) (k : ℕ) → d ≡ over (tab k f) l → getD d k nan ≡ getD l k nan
-unfolding over
-unwritten d l f k e =
-    let p = tab k f in
-    let q : length p + 0 ≡ k = omega (arith, length-tab k f) in
-    let a = getD-append-add p (drop (length p) l) 0 nan in
-    let b = getD-drop (length p) l 0 nan in
-    ap (λ (m : List Float). getD m k nan) e ∙ subst (λ (m : ℕ). getD (p ++ drop (length p) l) m nan ≡ getD l m nan) q (a ∙ b)
 
 pub tab-all : (d l : List Float) (f : ℕ → Float) (k : ℕ) → d ≡ over (tab k f) l → k ≤ length l → length l ≤ k → d ≡ tab (length l) f
 tab-all d l f k e h g = e ∙ ap (λ (m : ℕ). over (tab m f) l) (le-antisymm h g) ∙ over-all (tab (length l) f) l (length-tab (length l) f)

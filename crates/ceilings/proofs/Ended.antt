@@ -45,10 +45,10 @@ module _ (ws : List Float) (cs : List ℕ) (room : ℕ) where
   unfolding figuresLaid
   ends-refused said r out e h o = o ∙ laid-refused 0 (figuresOutcome ws cs room) r room (figuresIn ws cs) (sym e ∙ h)
 
-  module _ (sized : Outcome) (s : sized ≡ first (sizeLines (length ws) (length cs) room)) where
+  module _ (sized : Outcome) (s : sized ≡ first (sizeLines (length ws) cs room)) where
     pub sizes-refused : (r : Refusal) → sized ≡ Refused r → sized ≡ figuresOutcome ws cs room
     unfolding figuresOutcome figuresTable areUnlike sizeLines
-    sizes-refused r e = e ∙ sym (first-refused (sizeLines (length ws) (length cs) room) (figuresLines ws cs) r (sym s ∙ e))
+    sizes-refused r e = e ∙ sym (first-refused (sizeLines (length ws) cs room) (figuresLines ws cs) r (sym s ∙ e))
 
     -- ---- sizes that are good
 

@@ -2,17 +2,16 @@
 use Prim.Native.Nat.{ℕ, zero, suc, _+_, _-_, _≤_, _<_, min}
 use mathlib.Core.Path.{_≡_, refl, sym, ap, subst, _∙_}
 use mathlib.Core.Logic.{⊎-elim}
-use mathlib.Core.List.{List, _++_}
+use mathlib.Core.List.{List}
 use native.Mathlib.Nat.{le-of-suc-le-suc, eq-or-lt-of-le}
 use native.Mathlib.Numerals.{add-one}
 use native.Mathlib.Omega.{arith}
 use borrow.Author.Tests.{ltb-true, ltb-false}
 use lib.Dec.{ltb}
-use lib.ListN.{length, getD, drop}
-use lib.Seq.{getD-append-add, getD-drop}
+use lib.ListN.{getD}
 use Rattle.lent.specs.Count.{upto}
 use Rattle.lent.specs.Grid.{tab, over}
-use Rattle.lent.proofs.Laws.{either, length-tab}
+use Rattle.lent.proofs.Laws.{either, unwritten}
 use Rattle.ceilings.specs.Ceilings.{keptAt, gapAt, cutTotal, leftFor, cappedAt}
 
 -- what is left when a gap has been filled
@@ -86,20 +85,11 @@ module _ (gap given : ℕ → ℕ) (n : ℕ) (below : (i : ℕ) → i < n → gi
 
 -- ---- a turn of the loop that cuts and fills
 
--- an entry that is not written yet
-unwritten : (d l : List ℕ) (f : ℕ → ℕ) (k : ℕ) → d ≡ over (tab k f) l → getD d k 0 ≡ getD l k 0
-unfolding over
-unwritten d l f k e =
-    let p = tab k f in
-    let q : length p + 0 ≡ k = omega (arith, length-tab k f) in
-    ap (λ (m : List ℕ). getD m k 0) e
-    ∙ subst (λ (m : ℕ). getD (p ++ drop (length p) l) m 0 ≡ getD l m 0) q (getD-append-add p (drop (length p) l) 0 0 ∙ getD-drop (length p) l 0 0)
-
 module _ (xs cs d : List ℕ) (k kept more left : ℕ) (e : d ≡ over (tab k (cappedAt xs cs)) xs) (a : kept ≡ min (getD d k 0) (getD cs k 0)) (b : more ≡ min (getD cs k 0 - kept) left)
     (l : left ≡ leftFor (gapAt xs cs) (cutTotal xs cs) k) where
   kept-is : kept ≡ keptAt xs cs k
   unfolding keptAt
-  kept-is = a ∙ ap (λ (x : ℕ). min x (getD cs k 0)) (unwritten d xs (cappedAt xs cs) k e)
+  kept-is = a ∙ ap (λ (x : ℕ). min x (getD cs k 0)) (unwritten d xs (cappedAt xs cs) k 0 e)
 
   gap-is : getD cs k 0 - kept ≡ gapAt xs cs k
   unfolding gapAt

@@ -1,19 +1,16 @@
 -- A list's total kept at most one above 1,000,000, as a loop makes it, and what it decides. Assumes nothing.
 use Prim.Native.Nat.{ℕ, _+_, _-_, _≤_, min}
-use mathlib.Core.Path.{_≡_, refl, sym, ap, _∙_}
+use mathlib.Core.Path.{_≡_, refl, ap}
 use mathlib.Core.Bool.{not}
-use mathlib.Core.Logic.{⊎-elim}
 use mathlib.Core.List.{List}
 use native.Mathlib.Nat.{le-antisymm}
 use native.Mathlib.Numerals.{add-one}
 use native.Mathlib.Omega.{arith}
-use borrow.Author.Tests.{eq-eqb, ne-eqb}
 use lib.Dec.{ltb, eqb}
 use lib.ListN.{length, getD}
 use Rattle.lent.specs.Count.{upto}
-use Rattle.lent.proofs.Laws.{same-or-not}
 use Rattle.lent.proofs.Counting.{over-all-places}
-use Rattle.lent.proofs.Sizes.{same-test}
+use Rattle.lent.proofs.Sizes.{same-test, same-equal}
 use Rattle.millionths.specs.Meaning.{totalOf}
 use Rattle.ceilings.specs.Ceilings.{tooLow}
 
@@ -44,8 +41,4 @@ module _ (l : List ℕ) where
     kept-low = same-test s 1000000 (totalOf l) 1000000 (λ h. omega arith) (λ h. omega arith)
 
     pub kept-off : not (eqb s 1000000) ≡ not (eqb (totalOf l) 1000000)
-    kept-off =
-        ⊎-elim
-        (λ h. ap not (eq-eqb s 1000000 (omega arith) ∙ sym (eq-eqb (totalOf l) 1000000 h)))
-        (λ h. ap not (ne-eqb s 1000000 (λ q. h (omega arith)) ∙ sym (ne-eqb (totalOf l) 1000000 h)))
-        (same-or-not (totalOf l) 1000000)
+    kept-off = ap not (same-equal s 1000000 (totalOf l) 1000000 (λ h. omega arith) (λ h. omega arith))

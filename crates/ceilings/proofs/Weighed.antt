@@ -127,10 +127,10 @@ pub record SizesFit (ws : List Float) (cs : List ℕ) (room : ℕ) : Type 0 wher
   pub like : areUnlike cs (length ws) ≡ false
 
 module _ (ws : List Float) (cs : List ℕ) (room : ℕ) where
-  pub fitting : first (sizeLines (length ws) (length cs) room) ≡ Done → SizesFit ws cs room
+  pub fitting : first (sizeLines (length ws) cs room) ≡ Done → SizesFit ws cs room
   unfolding sizeLines areUnlike
   fitting d =
-      let a = none (sizeLines (length ws) (length cs) room) d in
+      let a = none (sizeLines (length ws) cs room) d in
       record { few = ltb-false 64 (length ws) (a .0); roomy = ltb-false room (length ws) (a .1 .0); like = a .1 .1 .0 }
 
   -- then 13, 18 and 20 decide
@@ -141,7 +141,7 @@ module _ (ws : List Float) (cs : List ℕ) (room : ℕ) where
   -- what an accepted one has, and what it leaves
   pub figures-done : figuresOutcome ws cs room ≡ Done → SizesFit ws cs room × (first (figuresLines ws cs) ≡ Done)
   unfolding figuresOutcome figuresTable areUnlike sizeLines
-  figures-done d = let p = parts-done (sizeLines (length ws) (length cs) room) (figuresLines ws cs) d in (fitting (p .0), p .1)
+  figures-done d = let p = parts-done (sizeLines (length ws) cs room) (figuresLines ws cs) d in (fitting (p .0), p .1)
 
   pub figures-laid : figuresOutcome ws cs room ≡ Done → figuresLaid ws cs room ≡ figuresIn ws cs ++ noughts (room - length ws)
   unfolding figuresLaid laid

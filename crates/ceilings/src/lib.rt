@@ -108,7 +108,7 @@ pub fn are_unlike(ceilings: &[usize], n: usize) -> bool
 
 // 9, 11 and 3 of weights and their ceilings, which may be none.
 fn judge_sizes(weights: usize, ceilings: &[usize], room: usize) -> Outcome
-    ensures { λ r. ⌜ r ≡ first (sizeLines weights (length (now (ceilings .entry))) room) ⌝ }
+    ensures { λ r. ⌜ r ≡ first (sizeLines weights (now (ceilings .entry)) room) ⌝ }
 {
     let unlike = are_unlike(ceilings, weights);
     let o = refusal::refuse(unlike, Refusal::DimensionMismatch, Outcome::Done);

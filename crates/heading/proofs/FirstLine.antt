@@ -3,15 +3,14 @@ use Prim.Native.Nat.{ℕ, _+_, _-_, _≤_, _<_}
 use mathlib.Core.Path.{_≡_, refl, sym, ap, _∙_}
 use mathlib.Core.Bool.{Bool, true, false}
 use mathlib.Core.List.{List}
-use mathlib.Core.Logic.{⊎-elim}
 use native.Mathlib.Omega.{arith}
-use borrow.Author.Tests.{eq-eqb, ne-eqb, eqb-true, eqb-false, lt-ltb, le-ltb}
+use borrow.Author.Tests.{eqb-true, lt-ltb, le-ltb}
 use lib.Dec.{eqb}
 use lib.ListN.{length}
 use Rattle.refusal.specs.declared.Refusal.{Refusal}
 use Rattle.lent.specs.Count.{one}
-use Rattle.lent.proofs.Laws.{either}
 use Rattle.lent.proofs.Counting.{one-le}
+use Rattle.lent.proofs.Sizes.{same-equal}
 use Rattle.text.specs.Bytes.{bytes, same}
 use Rattle.fields.specs.Split.{split}
 use Rattle.fields.proofs.Every.{both-left}
@@ -28,14 +27,6 @@ use Rattle.heading.specs.declared.Heading.the-variants as heading
 -- a test of a piece, by what a call of it said
 pub told : (f : List ℕ → Bool) (r t : Bool) (a k : List ℕ) → r ≡ f a → a ≡ k → r ≡ t → f k ≡ t
 told f r t a k e g h = ap f (sym g) ∙ sym e ∙ h
-
--- equalities that hold together are tested alike
-same-equal : (a b c d : ℕ) → (a ≡ b → c ≡ d) → (c ≡ d → a ≡ b) → eqb a b ≡ eqb c d
-same-equal a b c d f g =
-    ⊎-elim
-    (λ e. e ∙ sym (eq-eqb c d (f (eqb-true a b e))))
-    (λ e. e ∙ sym (ne-eqb c d (λ h. eqb-false a b e (g h))))
-    (either (eqb a b))
 
 -- ---- fields counted by the tabs between them
 

@@ -189,6 +189,15 @@ module _ {A : Type 0} where
   unfolding over
   getD-over p l k d h = List·getD-append p (drop (length p) l) d k h
 
+  -- the entry after those that were written
+  pub unwritten : (d l : List A) (f : ℕ → A) (k : ℕ) (z : A) → d ≡ over (tab k f) l → getD d k z ≡ getD l k z
+  unfolding over
+  unwritten d l f k z e =
+      let p = tab k f in
+      let q : length p + 0 ≡ k = omega (arith, length-tab k f) in
+      ap (λ (m : List A). getD m k z) e
+      ∙ subst (λ (m : ℕ). getD (p ++ drop (length p) l) m z ≡ getD l m z) q (getD-append-add p (drop (length p) l) 0 z ∙ getD-drop (length p) l 0 z)
+
   -- what is written over a part that was written before, and reaches as far, hides it
   pub over-over : (p q l : List A) → length p ≤ length q → length p ≤ length l → over q (over p l) ≡ over q l
   unfolding over

@@ -1,15 +1,15 @@
 -- The sizes of a matrix: what the code's tests say of the definitions, and what a matrix that is not refused for them knows. Assumes nothing.
-use Prim.Native.Nat.{ℕ, _+_, _-_, _*_, _/_, _%_, _<_, _≤_}
+use Prim.Native.Nat.{ℕ, _-_, _*_, _/_, _%_, _<_, _≤_}
 use mathlib.Core.Path.{_≡_, refl, sym, ap, subst, _∙_}
 use mathlib.Core.Bool.{Bool, true, false, not}
-use mathlib.Core.Logic.{_⊎_, inl, inr, ⊎-elim}
-use mathlib.Core.List.{List, [], _∷_, _++_}
+use mathlib.Core.Logic.{_⊎_, ⊎-elim}
+use mathlib.Core.List.{List, [], _∷_}
 use native.Mathlib.Nat.{mul-zero, mul-div-cancel, mul-mod-left, div-add-mod', mul-le-mul, div-lt-iff-lt-mul}
 use native.Mathlib.Omega.{arith}
 use borrow.Author.Tests.{ltb-true, ltb-false, lt-ltb, le-ltb, eq-eqb, ne-eqb, eqb-true, not-false}
 use lib.Dec.{ltb, eqb}
-use lib.ListN.{length, replicate}
-use Rattle.refusal.specs.Table.{Line, first}
+use lib.ListN.{replicate}
+use Rattle.refusal.specs.Table.{first}
 use Rattle.refusal.specs.Telling.{tells}
 use Rattle.refusal.specs.declared.Refusal.{Refusal}
 use Rattle.refusal.specs.declared.Refusal.the-variants.{DimensionMismatch, ShortBuffer}
@@ -142,6 +142,14 @@ same-test a b c d f g =
     (λ e. e ∙ sym (lt-ltb c d (f (ltb-true a b e))))
     (λ e. e ∙ sym (le-ltb c d (⊎-elim (λ h. absurd (let q : a < b = g (ltb-true c d h) in let p = ltb-false a b e in omega arith)) (λ h. ltb-false c d h) (either (ltb c d)))))
     (either (ltb a b))
+
+-- so are two equalities
+pub same-equal : (a b c d : ℕ) → (a ≡ b → c ≡ d) → (c ≡ d → a ≡ b) → eqb a b ≡ eqb c d
+same-equal a b c d f g =
+    ⊎-elim
+    (λ e. eq-eqb a b e ∙ sym (eq-eqb c d (f e)))
+    (λ n. ne-eqb a b n ∙ sym (ne-eqb c d (λ e. n (g e))))
+    (same-or-not a b)
 
 pub no-rows : (room n : ℕ) → n ≡ 0 → false ≡ ltb room (2 * (n - 1))
 no-rows room n e = let q : 2 * (n - 1) ≤ room = omega arith in sym (le-ltb room (2 * (n - 1)) q)

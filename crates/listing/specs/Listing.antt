@@ -25,7 +25,7 @@ use Rattle.listing.specs.declared.Holding.{Holding}
 use Rattle.listing.specs.declared.Listed.{Listed}
 use Rattle.listing.specs.declared.Listed.the-variants as listed
 
--- ---- "An asset's record": its name, and its holding: weight, millionths, and "a ceiling in millionths" where ceilings are given. Said once for listing, sheet and report
+-- ---- "Each asset's record gains a ceiling in millionths": the record is the asset's name and its holding, for the listing and for all that reads it
 
 -- asset i's ceiling
 unfoldable pub ceilingAt : List ℕ → ℕ → Ceiling
@@ -42,7 +42,7 @@ unfolding decimal
 ceilingField ceiling.Absent = []
 ceilingField (ceiling.At c) = (tabulator ∷ []) ++ decimal c
 
--- "prints name, weight bits, millionths": "An answer that is NaN has the bits 7ff8000000000000". "Weight bits are those before ceilings"
+-- "prints name, weight bits, millionths": "An answer that is NaN has the bits 7ff8000000000000". The weight is the one before ceilings, the millionths those after them
 unfoldable pub holdingLine : List ℕ → Holding → List ℕ
 unfolding decimal hexOf ceilingField
 holdingLine name h =

@@ -6,12 +6,13 @@ use mathlib.Core.List.{List, [], _∷_}
 use mathlib.Core.Logic.{⊎-elim}
 use native.Mathlib.Nat.{add-zero}
 use native.Mathlib.Omega.{arith}
-use borrow.Author.Tests.{le-leb, leb-true, eq-eqb, ne-eqb}
+use borrow.Author.Tests.{le-leb, leb-true, ne-eqb}
 use lib.Dec.{eqb, leb}
 use lib.ListN.{length, getD, take, drop, length-drop}
 use lib.Seq.{length-take-le, take-all}
 use Rattle.lent.specs.Count.{one}
-use Rattle.lent.proofs.Laws.{either, same-or-not}
+use Rattle.lent.proofs.Laws.{either}
+use Rattle.lent.proofs.Sizes.{same-equal}
 use Rattle.fields.specs.Split.{onto, split, all}
 use Rattle.fields.specs.Numerals.{digit, inBase, isNumeral}
 use Rattle.fields.proofs.Every.{both-left, both-right, three-yes}
@@ -55,11 +56,7 @@ ceiling-cell w e =
 -- ---- an asset's line with a ceiling: one more cell, the last of which is one
 
 eqb-more : (m n : ℕ) → eqb m n ≡ eqb (suc m) (n + 1)
-eqb-more m n =
-    ⊎-elim
-    (λ e. eq-eqb m n e ∙ sym (eq-eqb (suc m) (n + 1) (omega arith)))
-    (λ e. ne-eqb m n e ∙ sym (ne-eqb (suc m) (n + 1) (λ q. e (omega arith))))
-    (same-or-not m n)
+eqb-more m n = same-equal m n (suc m) (n + 1) (λ e. omega arith) (λ e. omega arith)
 
 all-but-last : (f : List ℕ → Bool) (w : List ℕ) (l : List (List ℕ)) → f (getD (w ∷ l) (length l) []) ≡ true → all f (take (length l) (w ∷ l)) ≡ all f (w ∷ l)
 unfolding all

@@ -2,15 +2,13 @@
 use Prim.Native.Nat.{ℕ, zero, suc, _+_, _-_, _<_, _≤_}
 use mathlib.Core.Path.{_≡_, refl, sym, ap, _∙_}
 use mathlib.Core.List.{List, []}
-use mathlib.Core.Logic.{⊎-elim}
 use native.Mathlib.Decide.{decLe}
 use native.Mathlib.Nat.{lt-of-not-le}
 use native.Mathlib.Omega.{arith}
-use borrow.Author.Tests.{eq-eqb, ne-eqb}
 use lib.Dec.{eqb}
 use lib.ListN.{length, getD, take, drop, length-drop}
 use lib.Seq.{getD-drop, drop-drop}
-use Rattle.lent.proofs.Laws.{same-or-not}
+use Rattle.lent.proofs.Sizes.{same-equal}
 use Rattle.fields.specs.Split.{split, piece, firstPiece, endOf}
 use Rattle.fields.proofs.Pieces.{pieces, end-le, end-ge, cut-first, last-piece, next-pieces, piece-upto}
 use Rattle.reading.specs.Reading.{startOf}
@@ -104,7 +102,4 @@ module _ (d : ℕ) (s : List ℕ) where
       let q = last-end k h in
       let l : length (piece d s k) ≡ length (firstPiece d (drop at s)) = ap length (piece-at k (omega arith)) in
       let f = end-le d s at w in
-      ⊎-elim
-      (λ e. eq-eqb (length (piece d s k)) 0 (omega arith) ∙ sym (eq-eqb at (length s) e))
-      (λ n. ne-eqb (length (piece d s k)) 0 (λ e. n (omega arith)) ∙ sym (ne-eqb at (length s) n))
-      (same-or-not at (length s))
+      same-equal (length (piece d s k)) 0 at (length s) (λ e. omega arith) (λ e. omega arith)

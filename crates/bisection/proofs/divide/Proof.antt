@@ -5,8 +5,9 @@ use native.Mathlib.Omega.{arith}
 use lib.ListN.{length, getD, length-set}
 use lib.Ieee.{Float, nan, binary64, div}
 use Rattle.lent.specs.Grid.{tab, over}
+use Rattle.lent.proofs.Laws.{unwritten}
 use Rattle.lent.proofs.Fill.{filling, tab-step}
-use Rattle.bisection.proofs.Halves.{unwritten, tab-all}
+use Rattle.bisection.proofs.Halves.{tab-all}
 use Rattle.bisection.proofs.divide.Statement.{statement}
 use Rattle.bisection.proofs.divide.Tie as tie
 
@@ -47,7 +48,7 @@ loop-again c =
       omega arith,
       simp length-set (inv .1),
       tab-step (λ j. div binary64 (getD (s .args .ws .now) j nan) (s .args .s)) _ _ (s .args .ws .now) _ _ refl (inv .2)
-          (c .settled .ensures ∙ ap (λ (x : Float). div binary64 x (s .args .s)) (unwritten _ _ _ _ (inv .2))) (omega arith),
+          (c .settled .ensures ∙ ap (λ (x : Float). div binary64 x (s .args .s)) (unwritten _ _ _ _ nan (inv .2))) (omega arith),
     )
 
 same-length : tie.Need-same-length Inv-loop μ-loop
