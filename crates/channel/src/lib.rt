@@ -11,21 +11,31 @@ pub enum Input {
     Failed,
 }
 
+// One read of standard input: the bytes that came, none at its end. A buffer of no bytes reads none.
+pub fn read_piece(piece: &mut [u8]) -> Input
+    ensures { λ r. ⌜ isRead r (now (piece .exit)) ⌝ }
+{
+    let got = libc::read(0, piece);
+    if got < 0 {
+        io::write_all(
+            2,
+            b"standard input could not be read to its end: nothing is printed\n",
+        );
+        return Input::Failed;
+    }
+    Input::Text(io::count(got, piece))
+}
+
 // Reads standard input until it ends or the buffer is full.
 pub fn read(text: &mut [u8]) -> Input
     ensures { λ r. ⌜ isRead r (now (text .exit)) ⌝ }
 {
     let mut done = 0;
     while done < text.len() {
-        let got = libc::read(0, &mut text[done..]);
-        if got < 0 {
-            io::write_all(
-                2,
-                b"standard input could not be read to its end: nothing is printed\n",
-            );
+        let came = read_piece(&mut text[done..]);
+        let Input::Text(more) = came else {
             return Input::Failed;
-        }
-        let more = io::count(got, &text[done..]);
+        };
         if more == 0 {
             return Input::Text(done);
         }
