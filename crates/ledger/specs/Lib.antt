@@ -1,0 +1,3 @@
+pub mod Ledger
+pub mod Inner
+pub mod Meaning
