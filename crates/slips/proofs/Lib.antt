@@ -1,0 +1,5 @@
+pub mod Amounts
+pub mod Lines
+pub mod Meaning
+pub mod Tellings
+pub mod Figures
