@@ -1,0 +1,4 @@
+pub mod Month
+pub mod Calls
+pub mod Meaning
+pub mod Inner
