@@ -1,0 +1,4 @@
+pub mod Streams
+pub mod Fed
+pub mod Steps
+pub mod Begun
