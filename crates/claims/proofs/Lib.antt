@@ -1,3 +1,9 @@
 pub mod Sole
 pub mod Figures
 pub mod Limits
+pub mod Parted
+pub mod Slips
+pub mod Taken
+pub mod Months
+pub mod Ceiled
+pub mod Reported

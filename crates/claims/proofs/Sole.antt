@@ -147,6 +147,22 @@ use Rattle.ceilings.proofs.are_unlike as ceilings·are-unlike
 use Rattle.ceilings.proofs.under_ceilings as ceilings·under-ceilings
 use Rattle.ceilings.proofs.figures as ceilings·figures
 use Rattle.ceilings.proofs.read_ceiling as ceilings·read-ceiling
+use Rattle.keys.proofs.key_of as keys·key-of
+use Rattle.keys.proofs.is_before as keys·is-before
+use Rattle.keys.proofs.is_same as keys·is-same
+use Rattle.keys.proofs.put_key as keys·put-key
+use Rattle.ledger.proofs.enter as ledger·enter
+use Rattle.ledger.proofs.judge_table as ledger·judge-table
+use Rattle.ledger.proofs.position_in as ledger·position-in
+use Rattle.slips.proofs.read_slip as slips·read-slip
+use Rattle.month.proofs.begin_report as month·begin-report
+use Rattle.month.proofs.take_line as month·take-line
+use Rattle.cutting.proofs.begin_feed as cutting·begin-feed
+use Rattle.cutting.proofs.take_bytes as cutting·take-bytes
+use Rattle.cutting.proofs.end_feed as cutting·end-feed
+use Rattle.pages.proofs.end_report as pages·end-report
+use Rattle.pages.proofs.fault_line as pages·fault-line
+use Rattle.pages.proofs.text_to_page as pages·text-to-page
 use Rattle.foreign.proofs.number as foreign·number
 use Rattle.foreign.proofs.distance_said as foreign·distance-said
 use Rattle.foreign.proofs.linkage_said as foreign·linkage-said
@@ -705,6 +721,59 @@ groups-least-sheet κs a r r′ e e′ p q = (sole p q, refl)
 
 pub groups-group-sheet : Sole groups·group-sheet.ended groups·group-sheet.Reads.Post
 groups-group-sheet κs a r r′ e e′ p q = (sole (p .answer) (q .answer), kept5 (λ i. (tt, (sole (p .bytes-are) (q .bytes-are) i, tt))))
+
+-- ---- keys, ledger, slips, month, cutting, pages: the month-end report
+
+pub keys-key-of : Sole keys·key-of.ended keys·key-of.Reads.Post
+keys-key-of κs a r r′ e e′ p q = (sole p q, refl)
+
+pub keys-is-before : Sole keys·is-before.ended keys·is-before.Reads.Post
+keys-is-before κs a r r′ e e′ p q = (sole p q, refl)
+
+pub keys-is-same : Sole keys·is-same.ended keys·is-same.Reads.Post
+keys-is-same κs a r r′ e e′ p q = (sole p q, refl)
+
+pub keys-put-key : Sole keys·put-key.ended keys·put-key.Reads.Post
+keys-put-key κs a r r′ e e′ p q = (sole (p .moved) (q .moved), λ i. (sole (p .bytes) (q .bytes) i, (tt, (tt, tt))))
+
+pub ledger-enter : Sole ledger·enter.ended ledger·enter.Reads.Post
+ledger-enter κs a r r′ e e′ p q = (sole (p .answer) (q .answer), λ i. (sole (p .table-is) (q .table-is) i, (tt, (tt, tt))))
+
+pub ledger-judge-table : Sole ledger·judge-table.ended ledger·judge-table.Reads.Post
+ledger-judge-table κs a r r′ e e′ p q = (sole p q, refl)
+
+pub ledger-position-in : Sole ledger·position-in.ended ledger·position-in.Reads.Post
+ledger-position-in κs a r r′ e e′ p q = (sole p q, refl)
+
+pub slips-read-slip : Sole slips·read-slip.ended slips·read-slip.Reads.Post
+slips-read-slip κs a r r′ e e′ p q = (sole p q, refl)
+
+pub month-begin-report : Sole month·begin-report.ended month·begin-report.Reads.Post
+month-begin-report κs a r r′ e e′ p q = (sole (p .answer) (q .answer), λ i. (sole (p .table-is) (q .table-is) i, tt))
+
+pub month-take-line : Sole month·take-line.ended month·take-line.Reads.Post
+month-take-line κs a r r′ e e′ p q = (sole (p .answer) (q .answer), λ i. (sole (p .table-is) (q .table-is) i, (tt, (tt, tt))))
+
+pub cutting-begin-feed : Sole cutting·begin-feed.ended cutting·begin-feed.Reads.Post
+cutting-begin-feed κs a r r′ e e′ p q = (sole (p .answer) (q .answer), λ i. (sole (p .table-is) (q .table-is) i, (sole (p .held-is) (q .held-is) i, tt)))
+
+pub cutting-take-bytes : Sole cutting·take-bytes.ended cutting·take-bytes.Reads.Post
+cutting-take-bytes κs a r r′ e e′ p q = (sole (p .answer) (q .answer), λ i. (sole (p .table-is) (q .table-is) i, (sole (p .held-is) (q .held-is) i, (tt, (tt, tt)))))
+
+pub cutting-end-feed : Sole cutting·end-feed.ended cutting·end-feed.Reads.Post
+cutting-end-feed κs a r r′ e e′ p q = (sole (p .answer) (q .answer), λ i. (sole (p .held-is) (q .held-is) i, (tt, tt)))
+
+pub pages-end-report : Sole pages·end-report.ended pages·end-report.Reads.Post
+pages-end-report κs a r r′ e e′ p q = (sole (p .made .answer) (q .made .answer), λ i. (sole (p .table-is) (q .table-is) i, (tt, (sole (p .made .bytes-are) (q .made .bytes-are) i, tt))))
+
+pub pages-fault-line : Sole pages·fault-line.ended pages·fault-line.Reads.Post
+pages-fault-line κs a r r′ e e′ p q = (sole p q, refl)
+
+pub pages-text-to-page : Sole pages·text-to-page.ended pages·text-to-page.Reads.Post
+pages-text-to-page κs a r r′ e e′ p q = (
+  sole (p .made .answer) (q .made .answer),
+  λ i. (tt, (sole (p .table-is) (q .table-is) i, (sole (p .held-is) (q .held-is) i, (sole (p .made .bytes-are) (q .made .bytes-are) i, tt)))),
+)
 
 -- ---- job: a text to its listing or its sheet
 
