@@ -7,6 +7,9 @@ use month::Progress;
 // More reads than any input takes.
 const MOST_READS: usize = 4_611_686_018_427_387_904;
 
+// As many reads of what comes after a refusal.
+const MOST_PASSED: usize = 65536;
+
 // What the input came to, or that it could not be read to its end.
 enum Taken {
     Whole(Feed),
@@ -21,7 +24,21 @@ fn is_refused(feed: Feed) -> bool {
     }
 }
 
-// Each piece as it is read. After a refusal nothing more is: whatever comes, the first line at fault decides.
+// What comes after a refusal is read and passed over, so that what writes it is not cut off; input without end is left after a while.
+fn pass_over(piece: &mut [u8], feed: Feed) -> Taken {
+    for _ in 0..MOST_PASSED {
+        let input = channel::read_piece(piece);
+        let Input::Text(n) = input else {
+            return Taken::Failed;
+        };
+        if n == 0 {
+            return Taken::Whole(feed);
+        }
+    }
+    Taken::Whole(feed)
+}
+
+// Each piece as it is read. Once a line is at fault nothing is taken any more: whatever comes, the first decides.
 fn take_input(table: &mut [usize], held: &mut [u8], piece: &mut [u8]) -> Taken {
     let mut feed = cutting::begin_feed(table, held);
     for _ in 0..MOST_READS {
@@ -34,7 +51,7 @@ fn take_input(table: &mut [usize], held: &mut [u8], piece: &mut [u8]) -> Taken {
         }
         feed = cutting::take_bytes(table, held, feed, &piece[..n]);
         if is_refused(feed) {
-            return Taken::Whole(feed);
+            return pass_over(piece, feed);
         }
     }
     io::write_all(
@@ -59,7 +76,7 @@ fn tell_fault(line: usize) {
 fn main() {
     let mut table = [0usize; 1792];
     let mut held = [0u8; 4358];
-    let mut piece = [0u8; 65536];
+    let mut piece = [0u8; 4096];
     let taken = take_input(&mut table, &mut held, &mut piece);
     let Taken::Whole(feed) = taken else {
         return;

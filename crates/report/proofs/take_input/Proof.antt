@@ -14,6 +14,7 @@ use Rattle.cutting.proofs.begin_feed.Reads as begin-feed-reads
 use Rattle.cutting.proofs.take_bytes.Reads as take-bytes-reads
 use Rattle.io.proofs.write_all.Reads as write-all-reads
 use Rattle.report.proofs.is_refused.Reads as is-refused-reads
+use Rattle.report.proofs.pass_over.Reads as pass-over-reads
 
 abbrev Inv-loop : tie.InvT-loop
 Inv-loop table₀ held₀ piece₀ feed₀ t7 counter₀ table held piece feed counter = (length table ≡ length table₀) × (length held ≡ length held₀) × (length piece ≡ length piece₀) × (counter ≤ 4611686018427387904)
@@ -90,6 +91,9 @@ is-refused-requires : tie.Need-is-refused-requires Inv-loop μ-loop
 is-refused-requires c κs = search needs
 
 -- src/main.rt:37:13
+pass-over-requires : tie.Need-pass-over-requires Inv-loop μ-loop
+pass-over-requires c κs = search needs
+
 same-length-7 : tie.Need-same-length-7 Inv-loop μ-loop
 same-length-7 c = search needs
 
@@ -164,6 +168,7 @@ take-input-spec =
     slice-aggregate-take-bytes
     take-bytes-requires
     is-refused-requires
+    pass-over-requires
     same-length-7
     same-length-8
     same-length-9
