@@ -9,6 +9,7 @@ use lib.Dec.{ltb, eqb}
 use lib.ListN.{length, take, getD, set, length-append, length-replicate}
 use lib.Seq.{length-take-le, take-suc, take-suc-set, take-append-seam, take-all}
 use Rattle.lent.specs.Grid.{noughts}
+use Rattle.lent.specs.Lent.{laid}
 use Rattle.refusal.specs.Table.{first}
 use Rattle.refusal.proofs.Tables.{none}
 use Rattle.refusal.specs.declared.Refusal.{Refusal}
@@ -29,7 +30,7 @@ use Rattle.month.proofs.Standing.{Fitting, table-passes, standing-fits}
 use Rattle.month.proofs.Steps.{go-on-at}
 use Rattle.month.proofs.Leaving.{left-on, begun-again}
 use Rattle.cutting.specs.Cutting.{Stream, byteTaken, bytesTaken}
-use Rattle.cutting.specs.Calls.{feedLines, feedReport, streaming, restedBy, fedBy, feedOf, heldLeft, TookBytes, endedBy, FeedEnded}
+use Rattle.cutting.specs.Calls.{feedLines, feedReport, streaming, restedBy, fedBy, feedOf, TookBytes, endedBy, FeedEnded}
 use Rattle.cutting.specs.Inner.{Running, settledBy, Settled}
 use Rattle.cutting.specs.declared.Feed.{Feed}
 use Rattle.cutting.proofs.Streams.{byte-end, byte-kept, byte-over, bytes-append, bytes-refused}
@@ -176,11 +177,11 @@ settled-at f t h h′ y e a =
 pub record Rests (Z : Stream) (t₀ : List ℕ) (room : ℕ) (r : Feed) (t′ h′ : List ℕ) : Type 0 where
   pub answer : r ≡ feedOf Z
   pub table-is : t′ ≡ tableLeft (Z .report) t₀
-  pub held-is : h′ ≡ heldLeft (Z .held) room
+  pub held-is : h′ ≡ laid 0 outcome.Done room (Z .held)
   pub stands : streaming r t′ h′ ≡ Z
 
 rests-refused : (q : Refusal) (k : ℕ) (w t₀ u v : List ℕ) (r : Feed) (t′ h′ : List ℕ) → length u ≡ length t₀ → settledBy (Refused q k) 0 u v r t′ h′ → Rests (restedBy (refusedBy q k) w) t₀ (length v) r t′ h′
-unfolding restedBy feedOf progressOf tableLeft heldLeft streaming feedReport
+unfolding restedBy feedOf progressOf tableLeft laid streaming feedReport
 rests-refused q k w t₀ u v r t′ h′ e s =
     record {
       answer = s .0;
@@ -200,7 +201,7 @@ again y n t h w s e a b f =
 
 rests-at : (s : Books) (w t₀ u v : List ℕ) (n : ℕ) (r : Feed) (t′ h′ : List ℕ) → u ≡ tableLeft (at s) t₀ → standing (At (tallyOf s)) u ≡ at s → take n v ≡ w → n ≤ 4357 → 4357 < length v
     → settledBy (At (tallyOf s)) n u v r t′ h′ → Rests (restedBy (at s) w) t₀ (length v) r t′ h′
-unfolding restedBy feedOf progressOf heldLeft
+unfolding restedBy feedOf progressOf laid
 rests-at s w t₀ u v n r t′ h′ a b c d e z =
     let m : n ≡ length w = sym (length-take-le n v (omega arith)) ∙ ap length c in
     let p : h′ ≡ w ++ noughts (length v - length w) = z .2 ∙ ap (λ (l : List ℕ). l ++ noughts (length v - n)) c ∙ ap (λ (k : ℕ). w ++ noughts (length v - k)) m in

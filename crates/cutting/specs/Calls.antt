@@ -1,13 +1,15 @@
 -- The report in lent buffers, with the bytes of a line that has begun: what the calls promise. Definitions only.
-use Prim.Native.Nat.{ℕ, _+_, _-_}
+use Prim.Native.Nat.{ℕ, _+_}
 use mathlib.Core.Path.{_≡_}
 use mathlib.Core.Bool.{not, cond}
-use mathlib.Core.List.{List, [], _∷_, _++_}
+use mathlib.Core.List.{List, [], _∷_}
 use lib.Dec.{ltb, eqb}
 use lib.ListN.{length, take}
 use Rattle.lent.specs.Grid.{noughts}
+use Rattle.lent.specs.Lent.{laid}
 use Rattle.refusal.specs.Table.{Line, first}
 use Rattle.refusal.specs.declared.Refusal.the-variants.{OverLimit, SliceLength, ShortBuffer, MalformedText}
+use Rattle.refusal.specs.declared.Outcome.the-variants as outcome
 use Rattle.slips.specs.Slips.{most-line}
 use Rattle.ledger.specs.Ledger.{most-names, table-cells}
 use Rattle.month.specs.Month.{Report, at, refusedBy, goOn, opening}
@@ -57,10 +59,6 @@ unfoldable pub feedOf : Stream → Feed
 unfolding progressOf
 feedOf f = record { progress = progressOf (f .report); held = length (f .held) }
 
--- the held bytes at the front of their buffer, and zeros after them
-unfoldable pub heldLeft : List ℕ → ℕ → List ℕ
-heldLeft w room = w ++ noughts (room - length w)
-
 -- a report begun
 pub record FeedBegun (t h : List ℕ) (r : Feed) (t′ h′ : List ℕ) : Type 0 where
   pub answer : r ≡ record { progress = At (tallyOf opening); held = 0 }
@@ -71,7 +69,7 @@ pub record FeedBegun (t h : List ℕ) (r : Feed) (t′ h′ : List ℕ) : Type 0
 pub record TookBytes (t h : List ℕ) (f : Feed) (s : List ℕ) (r : Feed) (t′ h′ : List ℕ) : Type 0 where
   pub answer : r ≡ feedOf (fedBy (streaming f t h) s)
   pub table-is : t′ ≡ tableLeft (fedBy (streaming f t h) s .report) t
-  pub held-is : h′ ≡ heldLeft (fedBy (streaming f t h) s .held) (length h)
+  pub held-is : h′ ≡ laid 0 outcome.Done (length h) (fedBy (streaming f t h) s .held)
   pub stands : streaming r t′ h′ ≡ fedBy (streaming f t h) s
 
 -- "input .. that breaks off": a line that has begun and not ended
