@@ -154,6 +154,7 @@ use Rattle.keys.proofs.put_key as keys·put-key
 use Rattle.ledger.proofs.enter as ledger·enter
 use Rattle.ledger.proofs.judge_table as ledger·judge-table
 use Rattle.ledger.proofs.position_in as ledger·position-in
+use Rattle.ledger.proofs.clear_past as ledger·clear-past
 use Rattle.slips.proofs.read_slip as slips·read-slip
 use Rattle.month.proofs.begin_report as month·begin-report
 use Rattle.month.proofs.take_line as month·take-line
@@ -744,6 +745,9 @@ ledger-judge-table κs a r r′ e e′ p q = (sole p q, refl)
 
 pub ledger-position-in : Sole ledger·position-in.ended ledger·position-in.Reads.Post
 ledger-position-in κs a r r′ e e′ p q = (sole p q, refl)
+
+pub ledger-clear-past : Sole ledger·clear-past.ended ledger·clear-past.Reads.Post
+ledger-clear-past κs a r r′ e e′ p q = (refl, λ i. (sole p q i, (tt, tt)))
 
 pub slips-read-slip : Sole slips·read-slip.ended slips·read-slip.Reads.Post
 slips-read-slip κs a r r′ e e′ p q = (sole p q, refl)

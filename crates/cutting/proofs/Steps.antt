@@ -18,17 +18,17 @@ use Rattle.refusal.specs.declared.Outcome.{Outcome}
 use Rattle.refusal.specs.declared.Outcome.the-variants as outcome
 use Rattle.fields.specs.Split.{newline}
 use Rattle.slips.specs.Slips.{most-line}
-use Rattle.ledger.specs.Ledger.{most-names, table-cells, tableLines}
-use Rattle.ledger.proofs.Outcomes.{judged-done}
+use Rattle.ledger.specs.Ledger.{most-names, table-cells, tableLines, clearedPast}
+use Rattle.ledger.proofs.Outcomes.{judged-done, past-laid}
 use Rattle.month.specs.Month.{Books, Report, at, refusedBy, goOn, lineTaken}
 use Rattle.month.specs.Calls.{booksOf, standing, tallyOf, progressOf, tableLeft, TookLine}
 use Rattle.month.specs.declared.Tally.{Tally}
 use Rattle.month.specs.declared.Progress.{Progress}
 use Rattle.month.specs.declared.Progress.the-variants.{At, Refused}
 use Rattle.month.proofs.Totals.{OfBooks}
-use Rattle.month.proofs.Standing.{Fitting, table-passes, standing-fits}
+use Rattle.month.proofs.Standing.{Fitting, table-passes, standing-fits, stands-fitting}
 use Rattle.month.proofs.Steps.{go-on-at}
-use Rattle.month.proofs.Leaving.{left-on, begun-again}
+use Rattle.month.proofs.Leaving.{left-length, begun-again}
 use Rattle.cutting.specs.Cutting.{Stream, byteTaken, bytesTaken}
 use Rattle.cutting.specs.Calls.{feedLines, feedReport, streaming, restedBy, fedBy, feedOf, TookBytes, endedBy, FeedEnded}
 use Rattle.cutting.specs.Inner.{Running, settledBy, Settled}
@@ -78,19 +78,11 @@ module _ (p : Progress) (n cells room : ℕ) (y : Tally) (is : p ≡ At y) (o : 
 
 -- ---- a byte
 
--- a table on its way fits what it was in the beginning
-running-fits : (S : Stream) (t₀ : List ℕ) (f : Feed) (t h : List ℕ) → Running S t₀ f t h → OfBooks (Fitting (length t₀)) (S .report)
-running-fits S t₀ f t h w = subst (λ (n : ℕ). OfBooks (Fitting n) (S .report)) (w .same) (subst (OfBooks (Fitting (length t))) (w .stands) (standing-fits (f .progress) t))
-
 line-taken : (S : Stream) (t₀ : List ℕ) (f : Feed) (t h l : List ℕ) (r : Progress) (t′ h′ : List ℕ) → Running S t₀ f t h → TookLine t (f .progress) l r t′ → length t′ ≡ length t
     → Running (record { report = lineTaken (S .report) l; held = [] }) t₀ (record { progress = r; held = 0 }) t′ h′
 line-taken S t₀ f t h l r t′ h′ w k e =
     record {
       answer = k .answer ∙ ap (λ (R : Report). progressOf (lineTaken R l)) (w .stands);
-      table-is =
-          k .table-is
-          ∙ ap (λ (R : Report). tableLeft (lineTaken R l) t) (w .stands)
-          ∙ left-on (S .report) l t t₀ (running-fits S t₀ f t h w) (w .table-is);
       stands = k .stands ∙ ap (λ (R : Report). lineTaken R l) (w .stands);
       same = e ∙ w .same;
       held-is = refl;
@@ -115,7 +107,7 @@ module _ (f : Feed) (t h : List ℕ) (b : ℕ) (other : b ≡ newline → ⊥) (
   holds less =
       let e : ltb (length (S .held)) most-line ≡ true = lt-ltb (length (S .held)) most-line (omega (arith, held-count)) in
       subst (λ (z : Stream). Running z t₀ (record { progress = f .progress; held = f .held + 1 }) t (set h (f .held) b)) (sym (byte-kept S b other e))
-      (record { answer = w .answer; table-is = w .table-is; stands = w .stands; same = w .same; held-is = held-more })
+      (record { answer = w .answer; stands = w .stands; same = w .same; held-is = held-more })
 
   -- .. or makes a line that is too long
   pub fills : (r : Progress) (t′ : List ℕ) → 4357 ≤ f .held → TookLine t (f .progress) (take (f .held + 1) (set h (f .held) b)) r t′ → length t′ ≡ length t
@@ -167,9 +159,9 @@ pub settled-refused : (f : Feed) (t h t′ h′ : List ℕ) (r : Refusal) (k : �
     → Settled f t h (record { progress = Refused r k; held = 0 }) t′ h′
 settled-refused f t h t′ h′ r k e a b = rw e (refl, a, b)
 
-pub settled-at : (f : Feed) (t h h′ : List ℕ) (y : Tally) → f .progress ≡ At y → h′ ≡ take (f .held) h ++ noughts (length h - f .held) → Settled f t h f t h′
-settled-at f t h h′ y e a =
-    subst (λ (p : Progress). settledBy p (f .held) t h f t h′) (sym e) ((λ i. record { progress = e i; held = f .held }), refl, a)
+pub settled-at : (f : Feed) (t h t′ h′ : List ℕ) (y : Tally) → f .progress ≡ At y → t′ ≡ clearedPast (y .names) t → h′ ≡ take (f .held) h ++ noughts (length h - f .held) → Settled f t h f t′ h′
+settled-at f t h t′ h′ y e b a =
+    subst (λ (p : Progress). settledBy p (f .held) t h f t′ h′) (sym e) ((λ i. record { progress = e i; held = f .held }), b, a)
 
 -- ---- a piece taken
 
@@ -199,29 +191,31 @@ again y n t h w s e a b f =
     let d = judged-done (length t) (y .names) (q .0) in
     rw (feed-passes (y .names) n (length t) (length h) (d .1) a (d .0) b) (λ i. record { report = at (q .1 i); held = f i })
 
-rests-at : (s : Books) (w t₀ u v : List ℕ) (n : ℕ) (r : Feed) (t′ h′ : List ℕ) → u ≡ tableLeft (at s) t₀ → standing (At (tallyOf s)) u ≡ at s → take n v ≡ w → n ≤ 4357 → 4357 < length v
+rests-at : (s : Books) (w t₀ u v : List ℕ) (n : ℕ) (r : Feed) (t′ h′ : List ℕ) → length u ≡ length t₀ → standing (At (tallyOf s)) u ≡ at s → take n v ≡ w → n ≤ 4357 → 4357 < length v
     → settledBy (At (tallyOf s)) n u v r t′ h′ → Rests (restedBy (at s) w) t₀ (length v) r t′ h′
-unfolding restedBy feedOf progressOf laid
+unfolding restedBy feedOf progressOf tallyOf tableLeft laid
 rests-at s w t₀ u v n r t′ h′ a b c d e z =
+    let fits : Fitting (length u) s = subst (OfBooks (Fitting (length u))) b (standing-fits (At (tallyOf s)) u) in
+    let x : t′ ≡ tableLeft (at s) t₀ = past-laid (s .positions) u t′ (fits .1) (begun-again (At (tallyOf s)) u s b .1) (z .1) ∙ left-length (at s) u t₀ a in
     let m : n ≡ length w = sym (length-take-le n v (omega arith)) ∙ ap length c in
     let p : h′ ≡ w ++ noughts (length v - length w) = z .2 ∙ ap (λ (l : List ℕ). l ++ noughts (length v - n)) c ∙ ap (λ (k : ℕ). w ++ noughts (length v - k)) m in
     let long : length h′ ≡ length v = ap length p ∙ length-append w (noughts (length v - length w)) ∙ ap (λ (k : ℕ). length w + k) (length-replicate (length v - length w) 0) ∙ omega arith in
     let front : take n h′ ≡ w = ap (take n) p ∙ ap (λ (k : ℕ). take k (w ++ noughts (length v - length w))) m ∙ take-append-seam w (noughts (length v - length w)) in
     record {
       answer = z .0 ∙ (λ i. record { progress = At (tallyOf s); held = m i });
-      table-is = z .1 ∙ a;
+      table-is = x;
       held-is = p;
       stands =
           ap (λ (f : Feed). streaming f t′ h′) (z .0)
-          ∙ again (tallyOf s) n t′ h′ w s (ap (standing (At (tallyOf s))) (z .1) ∙ b) d (omega (arith, long)) front;
+          ∙ again (tallyOf s) n t′ h′ w s (ap (standing (At (tallyOf s))) x ∙ stands-fitting (at s) t₀ (subst (λ (k : ℕ). Fitting k s) a fits)) d (omega (arith, long)) front;
     }
 
-rests : (R : Report) (w t₀ : List ℕ) (g : Feed) (u v : List ℕ) (r : Feed) (t′ h′ : List ℕ) → g .progress ≡ progressOf R → u ≡ tableLeft R t₀ → standing (g .progress) u ≡ R → length u ≡ length t₀
+rests : (R : Report) (w t₀ : List ℕ) (g : Feed) (u v : List ℕ) (r : Feed) (t′ h′ : List ℕ) → g .progress ≡ progressOf R → standing (g .progress) u ≡ R → length u ≡ length t₀
     → take (g .held) v ≡ w → g .held ≤ 4357 → 4357 < length v → Settled g u v r t′ h′ → Rests (restedBy R w) t₀ (length v) r t′ h′
 unfolding progressOf
-rests (at s) w t₀ g u v r t′ h′ a b c same d e f z =
-    rests-at s w t₀ u v (g .held) r t′ h′ b (ap (λ (p : Progress). standing p u) (sym a) ∙ c) d e f (subst (λ (p : Progress). settledBy p (g .held) u v r t′ h′) a z)
-rests (refusedBy q k) w t₀ g u v r t′ h′ a b c same d e f z =
+rests (at s) w t₀ g u v r t′ h′ a c same d e f z =
+    rests-at s w t₀ u v (g .held) r t′ h′ same (ap (λ (p : Progress). standing p u) (sym a) ∙ c) d e f (subst (λ (p : Progress). settledBy p (g .held) u v r t′ h′) a z)
+rests (refusedBy q k) w t₀ g u v r t′ h′ a c same d e f z =
     rests-refused q k w t₀ u v r t′ h′ same (subst (λ (p : Progress). settledBy p (g .held) u v r t′ h′) a z)
 
 took : (f : Feed) (t h s : List ℕ) (r : Feed) (t′ h′ : List ℕ) → Rests (fedBy (streaming f t h) s) t (length h) r t′ h′ → TookBytes t h f s r t′ h′
@@ -233,17 +227,17 @@ progressNumber (Refused r k) = 1
 
 -- counts that are not refused, as the call has judged them, are those of books that the table holds
 begins-go : (o : Outcome) (x y : Tally) (n : ℕ) (t : List ℕ) (room : ℕ) → first (feedLines (x .names) n (length t) room) ≡ o → At y ≡ progressOf (goOn o (x .line) (booksOf x t))
-    → (n ≤ 4357) × (4357 < room) × (t ≡ tableLeft (goOn o (x .line) (booksOf x t)) t) × (standing (At y) t ≡ goOn o (x .line) (booksOf x t))
+    → (n ≤ 4357) × (4357 < room) × (standing (At y) t ≡ goOn o (x .line) (booksOf x t))
 unfolding progressOf
 begins-go outcome.Done x y n t room q e =
     let d = feed-done (x .names) n (length t) room q in
     let p = stands-at x t (d .2) (d .0) in
     let g = begun-again (At x) t (booksOf x t) p in
-    (d .1, d .3, g .1, ap (λ (z : Progress). standing z t) (e ∙ sym (g .0)) ∙ p)
+    (d .1, d .3, ap (λ (z : Progress). standing z t) (e ∙ sym (g .0)) ∙ p)
 begins-go (outcome.Refused r) x y n t room q e = absurd (let z : _≡_ {A = ℕ} 0 1 = ap progressNumber e in omega arith)
 
 begins-at : (p : Progress) (n : ℕ) (t : List ℕ) (room : ℕ) (y : Tally) → At y ≡ progressOf (feedReport p n t room)
-    → (n ≤ 4357) × (4357 < room) × (t ≡ tableLeft (feedReport p n t room) t) × (standing (At y) t ≡ feedReport p n t room)
+    → (n ≤ 4357) × (4357 < room) × (standing (At y) t ≡ feedReport p n t room)
 unfolding feedReport progressOf
 begins-at (Refused r k) n t room y e = absurd (let z : _≡_ {A = ℕ} 0 1 = ap progressNumber e in omega arith)
 begins-at (At x) n t room y e = begins-go (first (feedLines (x .names) n (length t) room)) x y n t room refl e
@@ -258,7 +252,7 @@ module _ (f : Feed) (t h : List ℕ) (b : Progress) (is : b ≡ progressOf (feed
   unfolding streaming
   begins y e =
       let d = begins-at (f .progress) (f .held) t (length h) y (sym e ∙ is) in
-      (d .0, d .1, record { answer = is; table-is = d .2; stands = ap (λ (p : Progress). standing p t) e ∙ d .3; same = refl; held-is = refl })
+      (d .0, d .1, record { answer = is; stands = ap (λ (p : Progress). standing p t) e ∙ d .2; same = refl; held-is = refl })
 
   -- refused before the first byte
   pub fed-refused : (s : List ℕ) (q : Refusal) (k : ℕ) (r : Feed) (t′ h′ : List ℕ) → b ≡ Refused q k → Settled (record { progress = b; held = 0 }) t h r t′ h′ → TookBytes t h f s r t′ h′
@@ -278,7 +272,7 @@ fed-on f t h s g u v r t′ h′ w a b e z =
     let S = bytesTaken (streaming f t h) s in
     took f t h s r t′ h′
     (subst (λ (n : ℕ). Rests (restedBy (S .report) (S .held)) t n r t′ h′) e
-    (rests (S .report) (S .held) t g u v r t′ h′ (w .answer) (w .table-is) (w .stands) (w .same) (w .held-is) a (omega arith) z))
+    (rests (S .report) (S .held) t g u v r t′ h′ (w .answer) (w .stands) (w .same) (w .held-is) a (omega arith) z))
 
 -- ---- the input's end
 

@@ -101,7 +101,7 @@ fn take_each(table: &mut [usize], held: &mut [u8], feed: Feed, piece: &[u8]) -> 
     at
 }
 
-// Once the report is refused nothing is left in the buffers; else zeros stand after the held bytes.
+// Once the report is refused nothing is left in the buffers; else zeros stand after the names and after the held bytes.
 fn settle(table: &mut [usize], held: &mut [u8], fed: Feed) -> Feed
     ensures { λ r. ⌜ Settled fed (now (table .entry)) (now (held .entry)) r (now (table .exit)) (now (held .exit)) ⌝ }
 {
@@ -115,7 +115,8 @@ fn settle(table: &mut [usize], held: &mut [u8], fed: Feed) -> Feed
                 held: 0,
             }
         }
-        Progress::At(_) => {
+        Progress::At(y) => {
+            ledger::clear_past(table, y.names);
             lent::clear_bytes_from(held, fed.held);
             fed
         }

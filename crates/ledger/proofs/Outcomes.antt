@@ -1,26 +1,28 @@
 -- What a call of the ledger answers and leaves, from its parts. Assumes nothing.
-use Prim.Native.Nat.{ℕ, _<_, _≤_}
+use Prim.Native.Nat.{ℕ, _-_, _*_, _<_, _≤_}
 use mathlib.Core.Path.{_≡_, refl, sym, ap, _∙_}
 use mathlib.Core.Bool.{Bool, true, false, not, _&&_}
-use mathlib.Core.List.{List, [], _∷_}
+use mathlib.Core.List.{List, [], _∷_, _++_}
 use native.Mathlib.Omega.{arith}
-use borrow.Author.Tests.{ltb-true, ltb-false, eqb-true}
+use borrow.Author.Tests.{ltb-true, ltb-false, le-leb, lt-leb, eqb-true}
 use lib.Dec.{ltb, eqb}
-use lib.ListN.{length}
-use Rattle.lent.specs.Grid.{noughts}
+use lib.ListN.{length, take, drop}
+use lib.Seq.{take-at}
+use Rattle.lent.specs.Grid.{noughts, over}
+use Rattle.lent.specs.Lent.{laid}
 use Rattle.lent.proofs.Laws.{and-left, and-right}
 use Rattle.refusal.specs.Table.{first}
-use Rattle.refusal.proofs.Tables.{none, first-done, first-refused, done-refused}
+use Rattle.refusal.proofs.Tables.{none, first-done, first-refused, done-refused, parts-done}
 use Rattle.refusal.specs.declared.Refusal.{Refusal}
 use Rattle.refusal.specs.declared.Outcome.{Outcome}
 use Rattle.refusal.specs.declared.Outcome.the-variants.{Done, Refused}
-use Rattle.ledger.specs.Ledger.{entered, most-names, table-cells, positionAt, positions, blank, positionIn, firstOnes, enteredLines, tableLines, enterOutcome, enteredAs, leftBy, LotEntered}
-use Rattle.ledger.specs.Inner.{stepLeft, StepLeft}
+use Rattle.ledger.specs.Ledger.{entered, most-names, table-cells, positionAt, positions, blank, positionIn, firstOnes, tableOf, enteredLines, tableLines, enterOutcome, enteredAs, clearedPast, LotEntered}
+use Rattle.ledger.specs.Inner.{stepLeft, StepLeft, namesAfter}
 use Rattle.ledger.specs.declared.Position.{Position}
 use Rattle.ledger.specs.declared.Lot.{Lot}
 use Rattle.ledger.specs.declared.Entered.{Entered}
 use Rattle.ledger.specs.declared.Entered.the-variants as answer
-use Rattle.ledger.proofs.Tables.{table-over}
+use Rattle.ledger.proofs.Tables.{table-over, table-length}
 
 -- a table that is judged done has room for 256 positions, and no more names
 pub judged-done : (cells n : ℕ) → first (tableLines cells n) ≡ Done → (cells ≡ 1792) × (n ≤ 256)
@@ -83,19 +85,46 @@ unfolding enteredAs
 done-outcome Done l k e = refl
 done-outcome (Refused r) l k e = absurd (let z : _≡_ {A = ℕ} 0 1 = ap answer-number e in omega arith)
 
-module _ (t : List ℕ) (n : ℕ) (h : Lot) (r : Entered) (t′ : List ℕ) (told : r ≡ enteredAs (enterOutcome t n h) (entered (firstOnes n t) h))
-    (left : StepLeft (enterOutcome t n h) (entered (firstOnes n t) h) t t′) where
-  pub entered-done : (k : ℕ) → r ≡ answer.Names k → LotEntered t n h r t′
-  unfolding leftBy
-  entered-done k e =
-      let o = done-outcome (enterOutcome t n h) (entered (firstOnes n t) h) k (sym e ∙ told) in
-      record { answer = told; table-is = rw o (left .done o) }
+-- ---- what stands past the names is cleared
 
-  pub entered-refused : (x : Refusal) (u : List ℕ) → r ≡ answer.Refused x → u ≡ noughts (length t′) → LotEntered t n h r u
-  unfolding leftBy
-  entered-refused x u e z =
-      let o = refused-outcome (enterOutcome t n h) (entered (firstOnes n t) h) x (sym e ∙ told) in
-      record { answer = told; table-is = rw o (z ∙ ap noughts (left .same)) }
+pub past-few : (n : ℕ) (t t′ : List ℕ) → n ≤ 256 → t′ ≡ take (n * 7) t ++ noughts (length t - n * 7) → t′ ≡ clearedPast n t
+unfolding clearedPast
+past-few n t t′ h e = rw (le-leb n 256 h) e
+
+pub past-many : (n : ℕ) (t : List ℕ) → 256 < n → t ≡ clearedPast n t
+unfolding clearedPast
+past-many n t h = rw (lt-leb n 256 h)
+
+-- a front that is as long as the names' positions is kept, and zeros stand after it
+pub past-laid : (l : List Position) (t t′ : List ℕ) → length l ≤ 256 → take (length l * 7) t ≡ tableOf l → t′ ≡ clearedPast (length l) t → t′ ≡ laid 0 Done (length t) (tableOf l)
+unfolding clearedPast laid
+past-laid l t t′ h e q = let f = rw (le-leb (length l) 256 h) at q in f ∙ rw (e, ← table-length l)
+
+-- past no names everything is
+pub past-none : (t t′ : List ℕ) → t′ ≡ clearedPast 0 t → t′ ≡ noughts (length t)
+unfolding clearedPast
+past-none t t′ q = q ∙ (let z : length t - 0 * 7 ≡ length t = omega arith in ap noughts z)
+
+done-few : (t : List ℕ) (n : ℕ) (h : Lot) → enterOutcome t n h ≡ Done → length (entered (firstOnes n t) h) ≤ 256
+unfolding enterOutcome enteredLines
+done-few t n h e = ltb-false 256 (length (entered (firstOnes n t) h)) (none (enteredLines (firstOnes n t) h) (parts-done (tableLines (length t) n) (enteredLines (firstOnes n t) h) e .1) .0)
+
+module _ (t : List ℕ) (n : ℕ) (h : Lot) (r : Entered) (t′ u : List ℕ) (told : r ≡ enteredAs (enterOutcome t n h) (entered (firstOnes n t) h))
+    (left : StepLeft (enterOutcome t n h) (entered (firstOnes n t) h) t t′) (k : ℕ) (kept : k ≡ namesAfter r) (past : u ≡ clearedPast k t′) where
+  entered-by : (o : Outcome) → enterOutcome t n h ≡ o → u ≡ laid 0 o (length t) (tableOf (entered (firstOnes n t) h))
+  unfolding enteredAs laid over
+  entered-by Done e =
+      let l = entered (firstOnes n t) h in
+      let q : k ≡ length l = kept ∙ ap namesAfter (told ∙ ap (λ (z : Outcome). enteredAs z l) e) in
+      let w : take (length l * 7) t′ ≡ tableOf l = ap (take (length l * 7)) (left .done e) ∙ take-at (tableOf l) (drop (length (tableOf l)) t) (length l * 7) (table-length l) in
+      past-laid l t′ u (done-few t n h e) w (past ∙ ap (λ (z : ℕ). clearedPast z t′) q) ∙ ap (λ (z : ℕ). laid 0 Done z (tableOf l)) (left .same)
+  entered-by (Refused x) e =
+      let l = entered (firstOnes n t) h in
+      let q : k ≡ 0 = kept ∙ ap namesAfter (told ∙ ap (λ (z : Outcome). enteredAs z l) e) in
+      past-none t′ u (past ∙ ap (λ (z : ℕ). clearedPast z t′) q) ∙ ap noughts (left .same)
+
+  pub lot-entered : LotEntered t n h r u
+  lot-entered = record { answer = told; table-is = entered-by (enterOutcome t n h) refl }
 
 -- ---- a position read by its number
 

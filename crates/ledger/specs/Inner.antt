@@ -12,6 +12,8 @@ use Rattle.keys.specs.Keys.{keyBefore}
 use Rattle.keys.specs.declared.Key.{Key}
 use Rattle.ledger.specs.Ledger.{tableOf}
 use Rattle.ledger.specs.declared.Position.{Position}
+use Rattle.ledger.specs.declared.Entered.{Entered}
+use Rattle.ledger.specs.declared.Entered.the-variants as answer
 
 -- the place of the first position whose name is not before the given one
 unfoldable pub keyPlace : List Position → Key → ℕ
@@ -33,3 +35,8 @@ stepLeft (outcome.Refused r) l old = old
 pub record StepLeft (o : Outcome) (l : List Position) (t t′ : List ℕ) : Type 0 where
   pub done : o ≡ Done → t′ ≡ over (tableOf l) t
   pub same : length t′ ≡ length t
+
+-- how many names an answer tells of; a refusal of none
+abbrev pub namesAfter : Entered → ℕ
+namesAfter (answer.Names n) = n
+namesAfter (answer.Refused r) = 0

@@ -1,11 +1,12 @@
 -- Document 02, request 5: what is kept of each asset name over many jobs, and how a holding is entered. Definitions only.
-use Prim.Native.Nat.{ℕ, zero, suc, _+_, _*_, min, max}
+use Prim.Native.Nat.{ℕ, zero, suc, _+_, _-_, _*_, min, max}
 use mathlib.Core.Path.{_≡_}
 use mathlib.Core.Bool.{Bool, false, not, cond, _&&_, _||_}
 use mathlib.Core.List.{List, [], _∷_, _++_}
-use lib.Dec.{ltb, eqb}
+use lib.Dec.{leb, ltb, eqb}
 use lib.ListN.{length, getD, take}
-use Rattle.lent.specs.Grid.{tab, noughts, over}
+use Rattle.lent.specs.Grid.{tab, noughts}
+use Rattle.lent.specs.Lent.{laid}
 use Rattle.refusal.specs.Table.{Line, first}
 use Rattle.refusal.specs.Telling.{Telling, accepts, refuses}
 use Rattle.refusal.specs.declared.Refusal.the-variants.{OverLimit, SliceLength}
@@ -135,13 +136,11 @@ abbrev pub enteredTells : Entered → Telling ℕ
 enteredTells (Names n) = accepts n
 enteredTells (Refused r) = refuses r
 
--- what it leaves in the table: the positions with the holding entered, over its front; "leaves every lent answer .. entry zero" where it is refused
-unfoldable pub leftBy : Outcome → List Position → List ℕ → List ℕ
-unfolding over tableOf
-leftBy Done l t = over (tableOf l) t
-leftBy (outcome.Refused r) l t = noughts (length t)
+-- a table of n names without what stands past them; as it was where n is more than a table has
+unfoldable pub clearedPast : ℕ → List ℕ → List ℕ
+clearedPast n t = cond (leb n most-names) (take (n * 7) t ++ noughts (length t - n * 7)) t
 
--- a holding entered among the first n names of a table t: the answer, and what the table holds then
+-- a holding entered among the first n names of a table t: the answer, and in the table the positions with the holding entered, zeros after them; zeros throughout after a refusal
 pub record LotEntered (t : List ℕ) (n : ℕ) (h : Lot) (r : Entered) (t′ : List ℕ) : Type 0 where
   pub answer : r ≡ enteredAs (enterOutcome t n h) (entered (firstOnes n t) h)
-  pub table-is : t′ ≡ leftBy (enterOutcome t n h) (entered (firstOnes n t) h) t
+  pub table-is : t′ ≡ laid 0 (enterOutcome t n h) (length t) (tableOf (entered (firstOnes n t) h))

@@ -13,8 +13,8 @@ ghost use Rattle.refusal.specs.Table.{first};
 ghost use Rattle.refusal.specs.declared.Refusal.the-variants.{OverLimit};
 ghost use Rattle.lent.specs.Grid.{over};
 ghost use Rattle.keys.specs.Keys.{keySame};
-ghost use Rattle.ledger.specs.Ledger.{opened, jobsAfter, added, entered, positionAt, positionIn, positions, firstOnes, beyond, enteredLines, tableLines, enterOutcome, enteredAs, LotEntered};
-ghost use Rattle.ledger.specs.Inner.{keyPlace, insertAt, stepLeft, StepLeft};
+ghost use Rattle.ledger.specs.Ledger.{opened, jobsAfter, added, entered, positionAt, positionIn, positions, firstOnes, beyond, enteredLines, tableLines, enterOutcome, enteredAs, clearedPast, LotEntered};
+ghost use Rattle.ledger.specs.Inner.{keyPlace, insertAt, stepLeft, StepLeft, namesAfter};
 
 pub const MOST_NAMES: usize = 256;
 
@@ -265,14 +265,31 @@ fn enter_judged(table: &mut [usize], names: usize, h: Lot, judged: Outcome) -> E
     }
 }
 
-// One holding of a job, entered among the first `names` positions of the table. A refusal leaves zeros.
+// What stands past the first `names` positions of a table is zero.
+pub fn clear_past(table: &mut [usize], names: usize)
+    ensures { λ _. ⌜ now (table .exit) ≡ clearedPast names (now (table .entry)) ⌝ }
+{
+    if names <= MOST_NAMES {
+        lent::clear_numbers_from(table, names * 7);
+    }
+}
+
+// How many names there are now; after a refusal none.
+fn names_after(said: Entered) -> usize
+    ensures { λ r. ⌜ r ≡ namesAfter said ⌝ }
+{
+    match said {
+        Entered::Names(n) => n,
+        Entered::Refused(_) => 0,
+    }
+}
+
+// One holding of a job, entered among the first `names` positions of the table, zeros after them. A refusal leaves zeros throughout.
 pub fn enter(table: &mut [usize], names: usize, h: Lot) -> Entered
     ensures { λ r. ⌜ LotEntered (now (table .entry)) names h r (now (table .exit)) ⌝ }
 {
     let judged = judge_table(table.len(), names);
     let said = enter_judged(table, names, h, judged);
-    if let Entered::Refused(_) = said {
-        lent::clear_numbers_from(table, 0);
-    }
+    clear_past(table, names_after(said));
     said
 }

@@ -1,17 +1,18 @@
 -- A report written into counts and a table, and read again, is the same report. Assumes nothing.
 use Prim.Native.Nat.{ℕ, _≤_}
-use mathlib.Core.Path.{_≡_, refl, ap, _∙_}
+use mathlib.Core.Path.{_≡_, refl, sym, ap, _∙_}
 use mathlib.Core.List.{List}
 use native.Mathlib.Omega.{arith}
 use borrow.Author.Tests.{ltb-false, le-ltb, eqb-true, eq-eqb, not-false}
 use lib.Dec.{eqb}
-use lib.ListN.{length}
+use lib.ListN.{length, length-replicate}
 use lib.Seq.{length-take-le}
 use Rattle.refusal.specs.Table.{first}
 use Rattle.refusal.specs.declared.Outcome.the-variants.{Done}
 use Rattle.refusal.proofs.Tables.{none}
-use Rattle.lent.specs.Grid.{over}
+use Rattle.lent.specs.Grid.{noughts, over}
 use Rattle.lent.proofs.Laws.{length-over}
+use Rattle.lent.proofs.Sizes.{laid-done}
 use Rattle.fields.specs.Split.{tabulator, piece}
 use Rattle.ledger.specs.Ledger.{most-names, table-cells, entered, enteredLines, firstOnes, positions, tableOf, tableLines}
 use Rattle.ledger.proofs.Storing.{length-positions}
@@ -41,12 +42,19 @@ books-again s t h =
     let e : firstOnes (length (s .positions)) (over (tableOf (s .positions)) t) ≡ s .positions = table-first (s .positions) t h in
     λ i. record { positions = e i; jobs = s .jobs; accepted = s .accepted; lines = s .lines; sum = s .sum; line = s .line }
 
+-- the positions over a table of zeros
+left-over : (s : Books) (t : List ℕ) → tableLeft (at s) t ≡ over (tableOf (s .positions)) (noughts (length t))
+unfolding tableLeft
+left-over s t = sym (laid-done 0 Done (length t) (tableOf (s .positions)) refl)
+
 pub stands-fitting : (R : Report) (t : List ℕ) → OfBooks (Fitting (length t)) R → standing (progressOf R) (tableLeft R t) ≡ R
-unfolding standing progressOf tableLeft tallyOf
+unfolding standing progressOf tallyOf
 stands-fitting (refusedBy r k) t f = refl
 stands-fitting (at s) t f =
-    let w : length (over (tableOf (s .positions)) t) ≡ table-cells = length-over (tableOf (s .positions)) t (omega (arith, f .0, f .1, table-length (s .positions))) ∙ f .0 in
-    rw (table-passes (length (over (tableOf (s .positions)) t)) (length (s .positions)) w (f .1)) (ap at (books-again s t (f .1)))
+    let z = noughts (length t) in
+    let n : length z ≡ length t = length-replicate {A = ℕ} (length t) 0 in
+    let w : length (over (tableOf (s .positions)) z) ≡ table-cells = length-over (tableOf (s .positions)) z (omega (arith, n, f .0, f .1, table-length (s .positions))) ∙ n ∙ f .0 in
+    rw (left-over s t) (rw (table-passes (length (over (tableOf (s .positions)) z)) (length (s .positions)) w (f .1)) (ap at (books-again s z (f .1))))
 
 pub stands : (R : Report) (t : List ℕ) → length t ≡ 1792 → ((s : Books) → R ≡ at s → length (s .positions) ≤ 256) → standing (progressOf R) (tableLeft R t) ≡ R
 stands (refusedBy r k) t e f = stands-fitting (refusedBy r k) t tt

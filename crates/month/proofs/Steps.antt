@@ -1,5 +1,5 @@
 -- What the code does with a line is what the definition says: the answer, and the table where the report goes on. Assumes nothing.
-use Prim.Native.Nat.{ℕ, _+_, _≤_}
+use Prim.Native.Nat.{ℕ, _+_, _-_, _*_, _≤_}
 use mathlib.Core.Path.{_≡_, refl, sym, ap, subst, _∙_}
 use mathlib.Core.Bool.{false, _||_}
 use mathlib.Core.List.{List, _++_}
@@ -8,7 +8,7 @@ use native.Mathlib.Omega.{arith}
 use borrow.Author.Tests.{ltb-false, lt-ltb, le-ltb, eq-eqb, ne-eqb, leb-true, leb-false}
 use lib.Dec.{ltb, leb}
 use lib.ListN.{length, take, drop, take-append-drop}
-use lib.Seq.{length-take-le}
+use lib.Seq.{length-take-le, take-at}
 use Rattle.refusal.specs.Table.{Line, first, andThen}
 use Rattle.refusal.specs.declared.Refusal.{Refusal}
 use Rattle.refusal.specs.declared.Refusal.the-variants.{MalformedText}
@@ -17,31 +17,32 @@ use Rattle.refusal.specs.declared.Outcome.the-variants.{Done}
 use Rattle.refusal.specs.declared.Outcome.the-variants as outcome
 use Rattle.refusal.proofs.Tables.{none, first-append, first-done, first-refused}
 use Rattle.lent.specs.Grid.{noughts, over}
+use Rattle.lent.specs.Lent.{laid}
 use Rattle.lent.proofs.Laws.{either}
 use Rattle.lent.proofs.Sums.{no-or}
 use Rattle.fields.specs.Split.{tabulator, piece}
 use Rattle.keys.specs.Keys.{keyOf}
 use Rattle.keys.specs.declared.Key.{Key}
-use Rattle.ledger.specs.Ledger.{entered, positions, firstOnes, tableOf, most-added, enteredLines, tableLines, enterOutcome, enteredAs, leftBy, LotEntered}
+use Rattle.ledger.specs.Ledger.{entered, positions, firstOnes, tableOf, most-added, enteredLines, tableLines, enterOutcome, enteredAs, clearedPast, LotEntered}
 use Rattle.ledger.specs.declared.Position.{Position}
 use Rattle.ledger.specs.declared.Lot.{Lot}
 use Rattle.ledger.specs.declared.Entered.{Entered}
 use Rattle.ledger.specs.declared.Entered.the-variants as entry
 use Rattle.ledger.proofs.Storing.{length-positions}
-use Rattle.ledger.proofs.Tables.{table-over}
-use Rattle.ledger.proofs.Outcomes.{judged-done}
+use Rattle.ledger.proofs.Tables.{table-over, table-length}
+use Rattle.ledger.proofs.Outcomes.{judged-done, past-laid, past-none}
 use Rattle.slips.specs.Slips.{slipOf}
 use Rattle.slips.specs.declared.Slip.{Slip}
 use Rattle.slips.specs.declared.Slip.the-variants as slip
 use Rattle.slips.proofs.Meaning.{held-small}
 use Rattle.month.specs.Month.{Books, most-jobs, jobNumber, lotIn, afterHeld, afterOrder, afterRefused, afterSlip, overCounted, slipLines, Report, at, refusedBy, goOn, bookLine, lineTaken}
 use Rattle.month.specs.Calls.{booksOf, standing, tallyOf, progressOf, tableLeft, TookLine}
-use Rattle.month.specs.Inner.{limitLines, bookSlip, Stepped, Fits, SmallSlip}
+use Rattle.month.specs.Inner.{limitLines, bookSlip, Stepped, Fits, SmallSlip, namesHeld}
 use Rattle.month.specs.declared.Tally.{Tally}
 use Rattle.month.specs.declared.Progress.{Progress}
 use Rattle.month.specs.declared.Progress.the-variants.{At, Refused}
-use Rattle.month.proofs.Totals.{job-le}
-use Rattle.month.proofs.Standing.{table-passes, stands-after}
+use Rattle.month.proofs.Totals.{OfBooks, job-le}
+use Rattle.month.proofs.Standing.{Fitting, table-passes, standing-fits, line-fits, stands-after}
 
 -- ---- the counts
 
@@ -92,6 +93,12 @@ table-kept n t long h =
     let w : length (take n (positions t)) ≡ n = length-take-le n (positions t) (omega (arith, length-positions t)) in
     table-over t t (take n (positions t)) long long (sym (ap (λ (k : ℕ). take n (positions t) ++ drop k (positions t)) w ∙ take-append-drop n (positions t)))
 
+pub table-front : (n : ℕ) (t : List ℕ) → length t ≡ 1792 → n ≤ 256 → take (length (firstOnes n t) * 7) t ≡ tableOf (firstOnes n t)
+unfolding over
+table-front n t long h =
+    let l = firstOnes n t in
+    ap (take (length l * 7)) (table-kept n t long h) ∙ take-at (tableOf l) (drop (length (tableOf l)) t) (length l * 7) (table-length l)
+
 -- ---- a line that was read
 
 slip-refused : (s : Books) (w : List ℕ) (k : Slip) (r : Refusal) → first (slipLines s w k) ≡ outcome.Refused r → bookSlip s w k ≡ refusedBy r (s .line)
@@ -118,12 +125,12 @@ pub stepped-refused : (R : Report) (t t′ : List ℕ) (r : Refusal) (k : ℕ) �
 unfolding progressOf
 stepped-refused R t t′ r k e same = record { answer = rw e; table-is = λ s q. at-refused s r k (sym e ∙ q); same = same }
 
-stepped-on : (R : Report) (t t′ : List ℕ) (s : Books) (v : Tally) → R ≡ at s → v ≡ tallyOf s → t′ ≡ over (tableOf (s .positions)) t → length t′ ≡ length t → Stepped R t (At v) t′
+stepped-on : (R : Report) (t t′ : List ℕ) (s : Books) (v : Tally) → R ≡ at s → v ≡ tallyOf s → take (length (s .positions) * 7) t′ ≡ tableOf (s .positions) → length t′ ≡ length t → Stepped R t (At v) t′
 unfolding progressOf
 stepped-on R t t′ s v e f g same =
     record {
       answer = rw e (ap At f);
-      table-is = λ s′ q. g ∙ ap (λ (z : Books). over (tableOf (z .positions)) t) (same-books s s′ (sym e ∙ q));
+      table-is = λ s′ q. subst (λ (z : Books). take (length (z .positions) * 7) t′ ≡ tableOf (z .positions)) (same-books s s′ (sym e ∙ q)) g;
       same = same;
     }
 
@@ -193,7 +200,7 @@ module _ (t : List ℕ) (y : Tally) (w : List ℕ) (m : ℕ) (fits : Fits t y) (
 
   pub enter-on : (n : ℕ) → a ≡ entry.Names n
       → Stepped (bookSlip (booksOf y t) w (slip.Held m)) t (At (record { names = n; jobs = job; accepted = y .accepted; lines = y .lines + 1; sum = y .sum + m; line = y .line + 1 })) t′
-  unfolding booksOf tallyOf afterSlip afterHeld leftBy
+  unfolding booksOf tallyOf afterSlip afterHeld laid
   enter-on n e =
       let s = booksOf y t in
       let h = lotIn s w m in
@@ -203,7 +210,7 @@ module _ (t : List ℕ) (y : Tally) (w : List ℕ) (m : ℕ) (fits : Fits t y) (
       stepped-on (bookSlip s w (slip.Held m)) t t′ (afterSlip s w (slip.Held m)) (record { names = n; jobs = job; accepted = y .accepted; lines = y .lines + 1; sum = y .sum + m; line = y .line + 1 })
       (slip-on s w (slip.Held m) (sym same-outcome ∙ q .0))
       (λ k. record { names = i k; jobs = j k; accepted = y .accepted; lines = y .lines + 1; sum = y .sum + m; line = y .line + 1 })
-      (told-here .table-is ∙ ap (λ (z : Outcome). leftBy z (entered (firstOnes (y .names) t) h) t) (q .0))
+      (let l = entered (firstOnes (y .names) t) h in ap (take (length l * 7)) (told-here .table-is ∙ ap (λ (z : Outcome). laid 0 z (length t) (tableOf l)) (q .0)) ∙ take-at (tableOf l) (noughts (length t - length (tableOf l))) (length l * 7) (table-length l))
       same
 
 -- ---- a line that leaves the table as it was
@@ -273,8 +280,8 @@ module _ (t : List ℕ) (y : Tally) (w : List ℕ) (k : Slip) where
         answer = g;
         table-is =
             λ s′ q.
-            table-kept (y .names) t (f .long) (f .few)
-            ∙ ap (λ (l : List Position). over (tableOf l) t) (sym e ∙ ap (λ (z : Books). z .positions) (go-on-at (first (slipLines s w k)) (s .line) (afterSlip s w k) s′ q .1));
+            subst (λ (l : List Position). take (length l * 7) t ≡ tableOf l) (sym e ∙ ap (λ (z : Books). z .positions) (go-on-at (first (slipLines s w k)) (s .line) (afterSlip s w k) s′ q .1))
+            (table-front (y .names) t (f .long) (f .few));
         same = refl;
       }
 
@@ -323,23 +330,15 @@ took t l p r u e f =
     let R = lineTaken (standing p t) l in
     record { answer = e; table-is = f; stands = ap (λ (z : Progress). standing z u) e ∙ ap (standing (progressOf R)) f ∙ stands-after p t l }
 
-abbrev progressNumber : Progress → ℕ
-progressNumber (At y) = 0
-progressNumber (Refused r k) = 1
+-- what stands past the names is cleared
+left-past : (R : Report) (t t′ u : List ℕ) (k : ℕ) → OfBooks (Fitting (length t)) R → ((s : Books) → R ≡ at s → take (length (s .positions) * 7) t′ ≡ tableOf (s .positions)) → length t′ ≡ length t
+    → k ≡ namesHeld (progressOf R) → u ≡ clearedPast k t′ → u ≡ tableLeft R t
+unfolding progressOf tallyOf tableLeft
+left-past (at s) t t′ u k f h e g c =
+    past-laid (s .positions) t′ u (f .1) (h s refl) (c ∙ ap (λ (z : ℕ). clearedPast z t′) g) ∙ ap (λ (z : ℕ). laid 0 Done z (tableOf (s .positions))) e
+left-past (refusedBy x j) t t′ u k f h e g c = past-none t′ u (c ∙ ap (λ (z : ℕ). clearedPast z t′) g) ∙ ap noughts e
 
-left-refused : (R : Report) (t t′ u : List ℕ) (r : Refusal) (k : ℕ) → Refused r k ≡ progressOf R → length t′ ≡ length t → u ≡ noughts (length t′) → u ≡ tableLeft R t
-unfolding progressOf tableLeft
-left-refused (at s) t t′ u r k e f g = absurd (let z : _≡_ {A = ℕ} 1 0 = ap progressNumber e in omega arith)
-left-refused (refusedBy x j) t t′ u r k e f g = g ∙ ap noughts f
-
-left-at : (R : Report) (t t′ : List ℕ) (y : Tally) → At y ≡ progressOf R → ((s : Books) → R ≡ at s → t′ ≡ over (tableOf (s .positions)) t) → t′ ≡ tableLeft R t
-unfolding progressOf tableLeft
-left-at (at s) t t′ y e f = f s refl
-left-at (refusedBy x j) t t′ y e f = absurd (let z : _≡_ {A = ℕ} 0 1 = ap progressNumber e in omega arith)
-
-module _ (t l : List ℕ) (p r : Progress) (t′ : List ℕ) (h : Stepped (lineTaken (standing p t) l) t r t′) where
-  pub took-refused : (x : Refusal) (k : ℕ) (u : List ℕ) → r ≡ Refused x k → u ≡ noughts (length t′) → TookLine t p l r u
-  took-refused x k u e f = took t l p r u (h .answer) (left-refused (lineTaken (standing p t) l) t t′ u x k (sym e ∙ h .answer) (h .same) f)
-
-  pub took-on : (y : Tally) → r ≡ At y → TookLine t p l r t′
-  took-on y e = took t l p r t′ (h .answer) (left-at (lineTaken (standing p t) l) t t′ y (sym e ∙ h .answer) (h .table-is))
+pub took-line : (t l : List ℕ) (p r : Progress) (t′ u : List ℕ) (k : ℕ) → Stepped (lineTaken (standing p t) l) t r t′ → k ≡ namesHeld r → u ≡ clearedPast k t′ → TookLine t p l r u
+took-line t l p r t′ u k h e c =
+    let R = lineTaken (standing p t) l in
+    took t l p r u (h .answer) (left-past R t t′ u k (line-fits (length t) (standing p t) l (standing-fits p t)) (h .table-is) (h .same) (e ∙ ap namesHeld (h .answer)) c)

@@ -3,9 +3,11 @@ use Prim.Native.Nat.{ℕ}
 use mathlib.Core.Path.{_≡_}
 use mathlib.Core.List.{List}
 use lib.ListN.{length}
-use Rattle.lent.specs.Grid.{noughts, over}
+use Rattle.lent.specs.Grid.{noughts}
+use Rattle.lent.specs.Lent.{laid}
 use Rattle.refusal.specs.Table.{first}
 use Rattle.refusal.specs.Telling.{Telling, accepts, refuses}
+use Rattle.refusal.specs.declared.Outcome.the-variants as outcome
 use Rattle.ledger.specs.Ledger.{tableLines, firstOnes, tableOf}
 use Rattle.month.specs.Month.{Books, opening, Report, at, refusedBy, goOn, lineTaken}
 use Rattle.month.specs.declared.Tally.{Tally}
@@ -36,10 +38,10 @@ abbrev pub progressTells : Progress → Telling Tally
 progressTells (At y) = accepts y
 progressTells (Refused r k) = refuses r
 
--- what a call leaves in the table: the positions over its front, what is past them as it was; "leaves every lent answer .. entry zero" where it is refused
+-- what a call leaves in the table: the positions and zeros after them; "leaves every lent answer .. entry zero" where it is refused
 unfoldable pub tableLeft : Report → List ℕ → List ℕ
-unfolding over tableOf
-tableLeft (at s) t = over (tableOf (s .positions)) t
+unfolding laid tableOf
+tableLeft (at s) t = laid 0 outcome.Done (length t) (tableOf (s .positions))
 tableLeft (refusedBy r k) t = noughts (length t)
 
 -- a report begun

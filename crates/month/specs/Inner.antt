@@ -1,10 +1,9 @@
 -- What the private functions ask of one another and promise: may be skipped. Definitions only.
-use Prim.Native.Nat.{ℕ, _≤_}
+use Prim.Native.Nat.{ℕ, _*_, _≤_}
 use mathlib.Core.Path.{_≡_}
 use mathlib.Core.List.{List, [], _∷_}
 use lib.Dec.{ltb}
-use lib.ListN.{length}
-use Rattle.lent.specs.Grid.{over}
+use lib.ListN.{length, take}
 use Rattle.refusal.specs.Table.{Line, first}
 use Rattle.refusal.specs.declared.Refusal.the-variants.{OverLimit}
 use Rattle.ledger.specs.Ledger.{tableOf}
@@ -14,6 +13,7 @@ use Rattle.month.specs.Month.{Books, most-jobs, jobNumber, overCounted, 
 use Rattle.month.specs.Calls.{progressOf}
 use Rattle.month.specs.declared.Tally.{Tally}
 use Rattle.month.specs.declared.Progress.{Progress}
+use Rattle.month.specs.declared.Progress.the-variants as progress
 
 -- 9 of a holding's line, but for its name
 unfoldable pub limitLines : Books → List Line
@@ -25,10 +25,10 @@ unfoldable pub bookSlip : Books → List ℕ → Slip → Report
 unfolding slipLines afterSlip first
 bookSlip s w k = goOn (first (slipLines s w k)) (s .line) (afterSlip s w k)
 
--- a step on the way to R: the answer, and the table where R goes on
+-- a step on the way to R: the answer, and where R goes on its positions at the table's front
 pub record Stepped (R : Report) (t : List ℕ) (r : Progress) (t′ : List ℕ) : Type 0 where
   pub answer : r ≡ progressOf R
-  pub table-is : (s : Books) → R ≡ at s → t′ ≡ over (tableOf (s .positions)) t
+  pub table-is : (s : Books) → R ≡ at s → take (length (s .positions) * 7) t′ ≡ tableOf (s .positions)
   pub same : length t′ ≡ length t
 
 -- a table and a number of names that a report has
@@ -42,3 +42,8 @@ SmallSlip slip.Other = Unit
 SmallSlip (slip.Held m) = m ≤ million
 SmallSlip (slip.Order k) = Unit
 SmallSlip slip.Refused = Unit
+
+-- how many names the counts say that there are; a refusal none
+abbrev pub namesHeld : Progress → ℕ
+namesHeld (progress.At y) = y .names
+namesHeld (progress.Refused r k) = 0

@@ -13,7 +13,7 @@ ghost use Rattle.refusal.specs.Table.{first};
 ghost use Rattle.month.specs.Month.{most-jobs, jobNumber, overCounted, slipLines, lineTaken};
 ghost use Rattle.month.specs.Calls.{booksOf, standing, progressOf, Begun, TookLine};
 ghost use Rattle.slips.specs.declared.Slip.the-variants.{Held, Order, Refused};
-ghost use Rattle.month.specs.Inner.{limitLines, bookSlip, Stepped, Fits, SmallSlip};
+ghost use Rattle.month.specs.Inner.{limitLines, bookSlip, Stepped, Fits, SmallSlip, namesHeld};
 
 const MOST_JOBS: usize = 200;
 
@@ -190,7 +190,7 @@ fn take_slip(table: &mut [usize], y: Tally, w: &[u8], slip: Slip) -> Progress
     }
 }
 
-// The next line, but for the zeros that a refusal leaves.
+// The next line, but for the zeros that stand past the names.
 fn take_next(table: &mut [usize], progress: Progress, line: &[u8]) -> Progress
     ensures { λ r. ⌜ Stepped (lineTaken (standing progress (now (table .entry))) (now (line .entry))) (now (table .entry)) r (now (table .exit)) ⌝ }
 {
@@ -203,13 +203,21 @@ fn take_next(table: &mut [usize], progress: Progress, line: &[u8]) -> Progress
     }
 }
 
-// One line, without its newline. What was refused stays so; a refusal leaves zeros.
+// How many names the counts say that there are; a refusal none.
+fn names_held(said: Progress) -> usize
+    ensures { λ r. ⌜ r ≡ namesHeld said ⌝ }
+{
+    match said {
+        Progress::At(y) => y.names,
+        Progress::Refused(_, _) => 0,
+    }
+}
+
+// One line, without its newline. What was refused stays so. Zeros stand past the names; a refusal leaves zeros throughout.
 pub fn take_line(table: &mut [usize], progress: Progress, line: &[u8]) -> Progress
     ensures { λ r. ⌜ TookLine (now (table .entry)) progress (now (line .entry)) r (now (table .exit)) ⌝ }
 {
     let said = take_next(table, progress, line);
-    if let Progress::Refused(_, _) = said {
-        lent::clear_numbers_from(table, 0);
-    }
+    ledger::clear_past(table, names_held(said));
     said
 }
