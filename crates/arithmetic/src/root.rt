@@ -115,7 +115,7 @@ fn lift(t: u64) -> u32
 }
 
 // m * 4^k; and, for the guess, the bits of a double that is not subnormal and a power of 4 times as large.
-#[derive(Drop)]
+#[derive(Clone, Copy)]
 struct Scaled {
     m: u64,
     k: u64,

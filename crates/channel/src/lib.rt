@@ -4,7 +4,7 @@ ghost use Rattle.std.specs.Prelude.{◌≡◌, true, length};
 ghost use Rattle.channel.specs.Channel.{IsRead, IsWhole};
 
 // How many bytes were read, or that a text cannot be had whole, which standard error was told.
-#[derive(Drop)]
+#[derive(Clone, Copy)]
 pub enum Input {
     Text(usize),
     Failed,

@@ -16,7 +16,7 @@ use lent::Answer;
 use refusal::{Outcome, Refusal};
 
 // A variance or a ratio, or the refusal.
-#[derive(Drop)]
+#[derive(Clone, Copy)]
 pub enum Risk {
     Of(f64),
     Refused(Refusal),

@@ -11,7 +11,7 @@ use month::Progress;
 use refusal::{Outcome, Refusal};
 
 // Where the report stands, and how many bytes of a line that has begun are held.
-#[derive(Drop)]
+#[derive(Clone, Copy)]
 pub struct Feed {
     pub progress: Progress,
     pub held: usize,

@@ -10,7 +10,7 @@ use lent::Answer;
 use refusal::Outcome;
 
 // Which allocator's distance.
-#[derive(Drop)]
+#[derive(Clone, Copy)]
 pub enum Measure {
     Hrp,
     Hcaa,

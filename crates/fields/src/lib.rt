@@ -5,13 +5,13 @@ ghost use Rattle.fields.specs.Split.{split, end_of, last_piece, piece as piece_o
 ghost use Rattle.fields.specs.Numerals.{bits_read, numeral_read, digit as digitOf};
 ghost use Rattle.fields.specs.Inner.{spelled_after};
 
-#[derive(Drop)]
+#[derive(Clone, Copy)]
 pub enum Cell {
     Malformed,
     Of(f64),
 }
 
-#[derive(Drop)]
+#[derive(Clone, Copy)]
 pub enum Numeral {
     Malformed,
     Of(usize),

@@ -10,21 +10,21 @@ ghost use Rattle.fractions.specs.Inner.{Worth, Exactly, value_of, Normal, Holds,
 use refusal::{Outcome, Refusal};
 
 // m * 2^place units of 2^-1074.
-#[derive(Drop)]
+#[derive(Clone, Copy)]
 struct Digits {
     m: u64,
     place: u64,
 }
 
 // A fraction left over: (high * 2^32 + low) * 2^place units of 2^-1074, where top is place * 2^41 + high. Two compare by top, then by low.
-#[derive(Drop)]
+#[derive(Clone, Copy)]
 struct Fraction {
     top: u64,
     low: u64,
 }
 
 // A weight in millionths: its whole part, and the fraction left over.
-#[derive(Drop)]
+#[derive(Clone, Copy)]
 struct Parts {
     whole: usize,
     top: u64,

@@ -17,7 +17,7 @@ use refusal::{Outcome, Refusal};
 use tree::Node;
 
 // A node's depth, size and subtotal.
-#[derive(Drop)]
+#[derive(Clone, Copy)]
 pub struct Group {
     pub depth: usize,
     pub size: usize,

@@ -14,14 +14,14 @@ use refusal::{Outcome, Refusal};
 use sharing::{Metric, NamedMetric};
 
 // Into how many clusters the tree is cut.
-#[derive(Drop)]
+#[derive(Clone, Copy)]
 pub enum Clusters {
     All,
     Count(usize),
 }
 
 // Which expected returns a call reads: Sharpe alone reads any, and estimates them by a method where none are given.
-#[derive(Drop)]
+#[derive(Clone, Copy)]
 enum Wanted {
     Nothing,
     Given,

@@ -7,7 +7,7 @@ use recorded::{Expected, Matrices, Place};
 use refusal::Outcome;
 
 // What an account of HCAA begins with, and the place of its first matrix.
-#[derive(Drop)]
+#[derive(Clone, Copy)]
 struct Outset {
     distance: Distance,
     linkage: Linkage,
@@ -21,7 +21,7 @@ struct Outset {
 }
 
 // How many entries of each buffer are lent, and the place after them.
-#[derive(Drop)]
+#[derive(Clone, Copy)]
 struct Rooms {
     rows: usize,
     order: usize,
@@ -40,14 +40,14 @@ struct Buffers {
 }
 
 // How an account went, and the buffers as it left them.
-#[derive(Drop)]
+#[derive(Clone, Copy)]
 struct Ran {
     outcome: Outcome,
     left: Buffers,
 }
 
 // Where reading and writing stand, and the buffers as the accounts so far left them.
-#[derive(Drop)]
+#[derive(Clone, Copy)]
 struct Step {
     at: usize,
     end: usize,

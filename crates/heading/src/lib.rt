@@ -10,7 +10,7 @@ use linkage::{Distance, Linkage, NamedDistance, NamedLinkage};
 use refusal::Refusal;
 
 // How many clusters a job asks for.
-#[derive(Drop)]
+#[derive(Clone, Copy)]
 pub enum Asked {
     Malformed,
     All,
@@ -18,7 +18,7 @@ pub enum Asked {
 }
 
 // What a first line asks for.
-#[derive(Drop)]
+#[derive(Clone, Copy)]
 pub enum Heading {
     Refused(Refusal),
     Hrp {

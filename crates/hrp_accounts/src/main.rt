@@ -6,7 +6,7 @@ use recorded::{Matrices, Place};
 use refusal::Outcome;
 
 // What an account of HRP begins with, and the place of its first matrix.
-#[derive(Drop)]
+#[derive(Clone, Copy)]
 struct Start {
     distance: Distance,
     shrink: bool,
@@ -16,7 +16,7 @@ struct Start {
 }
 
 // How many entries of each buffer are lent, and the place after them.
-#[derive(Drop)]
+#[derive(Clone, Copy)]
 struct Rooms {
     rows: usize,
     order: usize,
@@ -39,14 +39,14 @@ struct Buffers {
 }
 
 // How an account went, and the buffers as it left them.
-#[derive(Drop)]
+#[derive(Clone, Copy)]
 struct Ran {
     outcome: Outcome,
     left: Buffers,
 }
 
 // Where reading and writing stand, and the buffers as the accounts so far left them.
-#[derive(Drop)]
+#[derive(Clone, Copy)]
 struct Step {
     at: usize,
     end: usize,

@@ -17,7 +17,7 @@ use reading::{Block, Reading};
 use refusal::{Outcome, Refusal};
 
 // What is printed of a job.
-#[derive(Drop)]
+#[derive(Clone, Copy)]
 pub enum Form {
     Listing,
     Sheet { named: bool },

@@ -6,7 +6,7 @@ ghost use Rattle.writing.specs.Writing.{Put};
 ghost use Rattle.keys.specs.Keys.{word_from, shortened, key_of, key_same, key_before, key_byte, key_bytes};
 
 // A name of up to 16 bytes: its first eight and its last eight as numbers in base 256, zeros past its end.
-#[derive(Drop)]
+#[derive(Clone, Copy)]
 pub struct Key {
     pub high: usize,
     pub low: usize,

@@ -20,7 +20,7 @@ pub const TABLE_CELLS: usize = 1792;
 pub const MOST_ADDED: usize = 4_611_686_018_427_387_904;
 
 // What is kept of one name.
-#[derive(Drop)]
+#[derive(Clone, Copy)]
 pub struct Position {
     pub name: Key,
     pub jobs: usize,
@@ -31,7 +31,7 @@ pub struct Position {
 }
 
 // A holding of a job: so many millionths of a name.
-#[derive(Drop)]
+#[derive(Clone, Copy)]
 pub struct Lot {
     pub name: Key,
     pub millionths: usize,
@@ -39,7 +39,7 @@ pub struct Lot {
 }
 
 // How many names there are now, or the refusal.
-#[derive(Drop)]
+#[derive(Clone, Copy)]
 pub enum Entered {
     Names(usize),
     Refused(Refusal),

@@ -19,14 +19,14 @@ pub const MOST_CELLS: usize = 4096;
 pub const LEAST_SCRATCH: usize = 8192;
 
 // A matrix that a call may be given or not.
-#[derive(Drop)]
+#[derive(Clone, Copy)]
 pub enum Shape {
     Absent,
     Of { rows: usize, columns: usize },
 }
 
 // What a call that answers a matrix returns; its cells are in the lent buffer.
-#[derive(Drop)]
+#[derive(Clone, Copy)]
 pub enum Answer {
     Matrix { rows: usize, columns: usize },
     Refused(Refusal),

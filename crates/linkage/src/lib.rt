@@ -20,13 +20,13 @@ use refusal::{Outcome, Refusal};
 use tree::{Asset, Node};
 use triangle::Form;
 
-#[derive(Drop)]
+#[derive(Clone, Copy)]
 pub enum Distance {
     Correlation,
     DistanceOfDistances,
 }
 
-#[derive(Drop)]
+#[derive(Clone, Copy)]
 pub enum Linkage {
     Single,
     Complete,
@@ -34,34 +34,34 @@ pub enum Linkage {
     Ward,
 }
 
-#[derive(Drop)]
+#[derive(Clone, Copy)]
 pub enum NamedDistance {
     Of(Distance),
     Refused(Refusal),
 }
 
-#[derive(Drop)]
+#[derive(Clone, Copy)]
 pub enum NamedLinkage {
     Of(Linkage),
     Refused(Refusal),
 }
 
 // The merge rows made, and the pairs of slots looked at for them.
-#[derive(Drop)]
+#[derive(Clone, Copy)]
 pub enum Joined {
     Made { rows: usize, pairs: usize },
     Refused(Refusal),
 }
 
 // The best of the pairs looked at, and how many they are.
-#[derive(Drop)]
+#[derive(Clone, Copy)]
 struct Looked {
     best: Best,
     pairs: usize,
 }
 
 // The slots that are merged, the distance between them, and their sizes.
-#[derive(Drop)]
+#[derive(Clone, Copy)]
 struct Merging {
     x: Slot,
     y: Slot,
@@ -71,7 +71,7 @@ struct Merging {
 }
 
 // What the triangle gave: the pairs looked at, or nothing, where some cell is not its mirror.
-#[derive(Drop)]
+#[derive(Clone, Copy)]
 enum Tried {
     Made(usize),
     Lopsided,

@@ -15,7 +15,7 @@ use refusal::{Outcome, Refusal};
 pub const LEAST_LISTING: usize = 8192;
 
 // How many bytes were written, or why none were.
-#[derive(Drop)]
+#[derive(Clone, Copy)]
 pub enum Listed {
     Sheet(usize),
     Refused(Refusal),
@@ -32,14 +32,14 @@ pub fn bytes(listed: Listed) -> usize
 }
 
 // A ceiling, where the assets have them.
-#[derive(Drop)]
+#[derive(Clone, Copy)]
 pub enum Ceiling {
     Absent,
     At(usize),
 }
 
 // What an asset's record has beside its name.
-#[derive(Drop)]
+#[derive(Clone, Copy)]
 pub struct Holding {
     pub weight: f64,
     pub millionths: usize,

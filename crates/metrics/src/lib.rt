@@ -11,7 +11,7 @@ use clusters::Risk;
 use refusal::Refusal;
 
 // How a node's weight is shared between its two children.
-#[derive(Drop)]
+#[derive(Clone, Copy)]
 pub enum Metric {
     MinimumVariance,
     MinimumStandardDeviation,
@@ -22,7 +22,7 @@ pub enum Metric {
 }
 
 // A split keeps the two sides' risks and the left side's factor together.
-#[derive(Drop)]
+#[derive(Clone, Copy)]
 pub struct Split {
     pub left: f64,
     pub right: f64,
@@ -30,13 +30,13 @@ pub struct Split {
 }
 
 // A split, or the refusal of a side.
-#[derive(Drop)]
+#[derive(Clone, Copy)]
 pub enum Splitting {
     By(Split),
     Refused(Refusal),
 }
 
-#[derive(Drop)]
+#[derive(Clone, Copy)]
 pub enum NamedMetric {
     Of(Metric),
     Refused(Refusal),

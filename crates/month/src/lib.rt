@@ -18,7 +18,7 @@ const MILLION: usize = 1_000_000;
 
 // Where the report stands between two lines, beside its table: the names in it, the jobs begun and accepted, the open job's lines and millionths, and the number
 // of the line to come.
-#[derive(Drop)]
+#[derive(Clone, Copy)]
 pub struct Tally {
     pub names: usize,
     pub jobs: usize,
@@ -29,7 +29,7 @@ pub struct Tally {
 }
 
 // The counts, or the refusal and the number of the line at fault.
-#[derive(Drop)]
+#[derive(Clone, Copy)]
 pub enum Progress {
     At(Tally),
     Refused(Refusal, usize),

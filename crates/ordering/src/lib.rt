@@ -10,7 +10,7 @@ ghost use Rattle.ordering.specs.Nearest.{whole_of, place, quantile, no_part, par
 use refusal::{Outcome, Refusal};
 
 // An entry of a list, or the refusal.
-#[derive(Drop)]
+#[derive(Clone, Copy)]
 pub enum Entry {
     Of(f64),
     Refused(Refusal),

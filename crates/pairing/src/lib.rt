@@ -12,11 +12,11 @@ use tree::Node;
 const EPS: f64 = 1e-12;
 
 // A place of the working matrix, where a cluster stands: never read as a node's id.
-#[derive(Drop)]
+#[derive(Clone, Copy)]
 pub struct Slot(pub usize);
 
 // The best pair so far: its slots, its distance, and its ids, the smaller first.
-#[derive(Drop)]
+#[derive(Clone, Copy)]
 pub struct Best {
     pub found: bool,
     pub a: Slot,

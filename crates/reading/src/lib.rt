@@ -15,7 +15,7 @@ use refusal::{Outcome, Refusal};
 pub const MOST_BYTES: usize = 65536;
 
 // What stands after a first line: rows of prices or of a covariance, a cell for each asset, with ceilings or without.
-#[derive(Drop)]
+#[derive(Clone, Copy)]
 pub struct Block {
     pub assets: usize,
     pub rows: usize,
@@ -24,7 +24,7 @@ pub struct Block {
 }
 
 // What a job text is; its cells, where its assets' names begin, and their ceilings are in the lent buffers.
-#[derive(Drop)]
+#[derive(Clone, Copy)]
 pub enum Reading {
     Refused(Refusal),
     Hrp {
@@ -39,7 +39,7 @@ pub enum Reading {
 }
 
 // The size of a block.
-#[derive(Drop)]
+#[derive(Clone, Copy)]
 enum Found {
     Malformed,
     Of { assets: usize, rows: usize },

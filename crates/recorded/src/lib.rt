@@ -11,21 +11,21 @@ use lent::{Answer, Shape};
 use refusal::{Outcome, Refusal};
 
 // A number that was read, and the place after it.
-#[derive(Drop)]
+#[derive(Clone, Copy)]
 pub struct Item {
     pub value: u64,
     pub at: usize,
 }
 
 // Where reading and writing stand.
-#[derive(Drop)]
+#[derive(Clone, Copy)]
 pub struct Place {
     pub at: usize,
     pub end: usize,
 }
 
 // A matrix of an account that was read, and the place after it.
-#[derive(Drop)]
+#[derive(Clone, Copy)]
 pub struct Given {
     pub shape: Shape,
     pub len: usize,
@@ -33,7 +33,7 @@ pub struct Given {
 }
 
 // The three matrices of an account but for their cells, and the place after them.
-#[derive(Drop)]
+#[derive(Clone, Copy)]
 pub struct Matrices {
     pub prices: Given,
     pub returns: Given,
@@ -42,7 +42,7 @@ pub struct Matrices {
 }
 
 // Expected returns that were read but for their doubles, and the place after them.
-#[derive(Drop)]
+#[derive(Clone, Copy)]
 pub struct Expected {
     pub given: bool,
     pub len: usize,

@@ -5,7 +5,7 @@ ghost use Rattle.refusal.specs.Refusal.{number_of, values_of};
 ghost use Rattle.refusal.specs.Table.{or_else, and_then};
 
 // A case for each number, named as the source's error where it has one.
-#[derive(Drop)]
+#[derive(Clone, Copy)]
 pub enum Refusal {
     NoData,
     UnknownAllocationMetric,
@@ -27,7 +27,7 @@ pub enum Refusal {
     CeilingsTooLow,
 }
 
-#[derive(Drop)]
+#[derive(Clone, Copy)]
 pub enum Outcome {
     Done,
     Refused(Refusal),

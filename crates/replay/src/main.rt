@@ -8,7 +8,7 @@ use recorded::{Item, Place};
 use tree::Node;
 
 // What a call on a matrix begins with, and the place of its cells.
-#[derive(Drop)]
+#[derive(Clone, Copy)]
 struct Asked {
     room: usize,
     parameter: usize,

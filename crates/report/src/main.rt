@@ -11,7 +11,7 @@ const MOST_READS: usize = 4_611_686_018_427_387_904;
 const MOST_PASSED: usize = 65536;
 
 // What the input came to, or that it could not be read to its end.
-#[derive(Drop)]
+#[derive(Clone, Copy)]
 enum Taken {
     Whole(Feed),
     Failed,

@@ -7,7 +7,7 @@ use recorded::{Expected, Place};
 use sharing::Metric;
 
 // A matrix and a list of ids that were read, and the place after them.
-#[derive(Drop)]
+#[derive(Clone, Copy)]
 struct MatrixAndList {
     rows: usize,
     columns: usize,
@@ -17,7 +17,7 @@ struct MatrixAndList {
 }
 
 // A matrix alone that was read, and the place after it.
-#[derive(Drop)]
+#[derive(Clone, Copy)]
 struct Table {
     rows: usize,
     columns: usize,
@@ -26,7 +26,7 @@ struct Table {
 }
 
 // A confidence, how many doubles are lent to work by it in, and the place after them.
-#[derive(Drop)]
+#[derive(Clone, Copy)]
 struct Level {
     confidence: f64,
     room: usize,
@@ -34,7 +34,7 @@ struct Level {
 }
 
 // What a weight is shared by, and the place of the expected returns.
-#[derive(Drop)]
+#[derive(Clone, Copy)]
 struct Asked {
     room: usize,
     metric: Metric,

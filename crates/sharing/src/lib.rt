@@ -19,7 +19,7 @@ use refusal::{Outcome, Refusal};
 use tree::{Asset, Node};
 
 // The numbers that stay the same on the whole way down.
-#[derive(Drop)]
+#[derive(Clone, Copy)]
 struct Plan {
     periods: usize,
     confidence: f64,

@@ -13,7 +13,7 @@ use fields::{Cell, Numeral};
 pub const MOST_LINE: usize = 4357;
 
 // A line: so many millionths of the name in its first field; a leaf order of so many names, which ends a job; a refused job; or none of these.
-#[derive(Drop)]
+#[derive(Clone, Copy)]
 pub enum Slip {
     Other,
     Held(usize),

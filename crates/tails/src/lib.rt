@@ -18,7 +18,7 @@ use ordering::Entry;
 use refusal::{Outcome, Refusal};
 
 // A sum and the number of its terms.
-#[derive(Drop)]
+#[derive(Clone, Copy)]
 struct Tail {
     sum: f64,
     count: usize,

@@ -11,11 +11,11 @@ use lent::Answer;
 use refusal::{Outcome, Refusal};
 
 // A node's id: an asset's number below n, and n + k for row k.
-#[derive(Drop)]
+#[derive(Clone, Copy)]
 pub struct Node(pub usize);
 
 // An asset's number.
-#[derive(Drop)]
+#[derive(Clone, Copy)]
 pub struct Asset(pub usize);
 
 // How often x stands in the list.

@@ -8,7 +8,7 @@ ghost use Rattle.lent.specs.Range.{range};
 ghost use Rattle.triangle.specs.Triangle.{met, row_of, shifted, mirror_row, mirrored, has_room, upper_row, upper_of};
 
 // How the distances are held. A triangle has one place for a cell and its mirror.
-#[derive(Drop)]
+#[derive(Clone, Copy)]
 pub enum Form {
     Square,
     Triangle,
