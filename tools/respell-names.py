@@ -23,6 +23,8 @@ TYPES = {"isRead": "IsRead", "settledBy": "SettledBy", "is_whole": "IsWhole"}
 # Lemmas that would fall together with a definition of this repository: a lemma with its function's name ends in _lem.
 LEMMAS = {it: it + "_lem" for it in "digits_of ended_by held_in line_taken next_place has_room".split()}
 LEMMAS |= {it: snake_lem for it, snake_lem in {"is-nan": "is_nan_lem", "is-order": "is_order_lem", "members-of": "members_of_lem", "of-fields": "of_fields_lem", "part-of": "part_of_lem", "whole-at": "whole_at_lem"}.items()}
+# A record's field may have the name of a definition.
+FIELDS = {"return-columns"}
 WORDS = {"let", "in", "λ", "with", "where"}
 
 
@@ -57,7 +59,7 @@ def table(texts):
             out[it] = snake(it)
     camel = {v for k, v in out.items() if "-" not in k}
     for it, new in out.items():
-        if "-" in it and new in camel:
+        if "-" in it and new in camel and it not in FIELDS:
             out[it] = new + "_lem"
     return {**out, **LEMMAS}
 

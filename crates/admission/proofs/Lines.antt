@@ -34,8 +34,8 @@ judge_said q len rows w room sized rooms shape ruled later rest r a b c d e f g 
 
 -- return rows of another width, behind the covariance's own lines
 pub shape_said : (q : HierarchyCall) (rows w : ℕ) (square o r : Outcome) → square ≡ first (square_lines rows w)
-    → o ≡ or_else (other_rows q.rule.metric q.rule.inputs.return_rows q.return_columns_lem w) DimensionMismatch Done → r ≡ and_then square o → r ≡ first (hierarchy_shape_lines q rows w)
+    → o ≡ or_else (other_rows q.rule.metric q.rule.inputs.return_rows q.return_columns w) DimensionMismatch Done → r ≡ and_then square o → r ≡ first (hierarchy_shape_lines q rows w)
 unfolding hierarchy_shape_lines
 shape_said q rows w square o r a b c =
-    let other = other_rows q.rule.metric q.rule.inputs.return_rows q.return_columns_lem w in
+    let other = other_rows q.rule.metric q.rule.inputs.return_rows q.return_columns w in
     c ∙ rw (a, b) (sym (first_append (square_lines rows w) ((other, DimensionMismatch) ∷ []) ∙ ap (and_then (first (square_lines rows w))) (table other DimensionMismatch [] ∙ ap (or_else other DimensionMismatch) table_end)))

@@ -18,19 +18,19 @@ pub record Rule : Type 0 where
 pub record HierarchyCall : Type 0 where
   pub rule : Rule
   pub expected_given : Bool
-  pub return_columns_lem : ℕ
+  pub return_columns : ℕ
 
 -- 9 and 10, of the covariance in a slice of len numbers and of the rows of returns
 unfoldable pub hierarchy_size_lines : HierarchyCall → ℕ → ℕ → ℕ → List Line
 hierarchy_size_lines q len rows w =
-    (over_limit q.rule.inputs.return_rows q.return_columns_lem, OverLimit)
-    ∷ (sizes len rows w ++ ((other_length (length q.rule.inputs.returns) q.rule.inputs.return_rows q.return_columns_lem, SliceLength) ∷ []))
+    (over_limit q.rule.inputs.return_rows q.return_columns, OverLimit)
+    ∷ (sizes len rows w ++ ((other_length (length q.rule.inputs.returns) q.rule.inputs.return_rows q.return_columns, SliceLength) ∷ []))
 
 -- no assets 1; covariance size 3; "return rows present with columns other than n 3", where they are read
 unfoldable pub hierarchy_shape_lines : HierarchyCall → ℕ → ℕ → List Line
 unfolding square_lines
 hierarchy_shape_lines q rows w =
-    square_lines rows w ++ ((other_rows q.rule.metric q.rule.inputs.return_rows q.return_columns_lem w, DimensionMismatch) ∷ [])
+    square_lines rows w ++ ((other_rows q.rule.metric q.rule.inputs.return_rows q.return_columns w, DimensionMismatch) ∷ [])
 
 -- "Sharpe: expected length other than n 3, else 4"
 unfoldable pub expected_lines : HierarchyCall → ℕ → List Line

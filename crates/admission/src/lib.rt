@@ -22,7 +22,7 @@ fn judge_sizes(
         (record {
           rule = record { metric = metric; inputs = record { expected = e; returns = returns.now; return_rows = return_rows; confidence = q }; clusters = k };
           expected_given = given;
-          return_columns_lem = return_columns;
+          return_columns = return_columns;
         })
         len rows_in columns) }
 {
@@ -48,7 +48,7 @@ fn judge_shape(
         (record {
           rule = record { metric = metric; inputs = record { expected = e; returns = xs; return_rows = return_rows; confidence = q }; clusters = k };
           expected_given = given;
-          return_columns_lem = return_columns;
+          return_columns = return_columns;
         })
         rows_in columns) }
 {
@@ -90,7 +90,7 @@ fn judge_rule(
             clusters = clusters;
           };
           expected_given = given;
-          return_columns_lem = w;
+          return_columns = w;
         })
         n
         ++ rule_lines
@@ -141,7 +141,7 @@ pub fn judge(
             clusters = clusters;
           };
           expected_given = given;
-          return_columns_lem = return_columns;
+          return_columns = return_columns;
         })
         len rows_in columns
         (record { rows = rows; order = order; weights = weights; scratch = scratch })) }

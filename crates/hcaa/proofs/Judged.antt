@@ -257,7 +257,7 @@ no_both false b = refl
 
 -- what hierarchy is asked: its expected returns are always there, and its rows of returns have as many columns as there are assets
 abbrev asked : HcaaJob → HierarchyCall
-asked j = record { rule = used_rule j; expected_given = true; return_columns_lem = j.assets }
+asked j = record { rule = used_rule j; expected_given = true; return_columns = j.assets }
 
 module _ (j : HcaaJob) (room : Room) (before : Outcome) (got : Answer) (said : Outcome) (made : List Float)
     (a : before ≡ first (hcaa_judge_table j.assets j.prices_shape (length j.prices) j.returns_shape (length j.returns) j.covariance_shape (length j.covariance) (metric_named j.metric) room))
@@ -380,7 +380,7 @@ module _ (j : HcaaJob) (room : Room) (before : Outcome) (got : Answer) (said : O
       called = record {
         rule = record { metric = used_metric j; inputs = record { expected = ys; returns = take (height * n) made; return_rows = height; confidence = j.confidence }; clusters = count };
         expected_given = true;
-        return_columns_lem = n;
+        return_columns = n;
       }
 
       called_is : called ≡ asked j
@@ -428,7 +428,7 @@ module _ (n : ℕ) (p : List Float) (ps : Shape) (xs : List Float) (rs : Shape) 
       (record {
         rule = record { metric = used; inputs = record { expected = ys; returns = take (height * n) made; return_rows = height; confidence = conf }; clusters = count };
         expected_given = true;
-        return_columns_lem = n;
+        return_columns = n;
       })
       d l cov n n room r rows order weights scratch
       → HcaaAllocated (hcaa_job n p ps xs rs c cs e given m method conf k by d l) room r rows order weights scratch

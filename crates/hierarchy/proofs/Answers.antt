@@ -80,7 +80,7 @@ module _ (q : HierarchyCall) (d : Distance) (l : Linkage) (cov : List Float) (ro
     made = take (2 * (n - 1)) tree
 
     abbrev asked : DownCall
-    asked = down_call q.rule.metric q.rule.inputs q.expected_given q.return_columns_lem cov n n made n q.rule.clusters
+    asked = down_call q.rule.metric q.rule.inputs q.expected_given q.return_columns cov n n made n q.rule.clusters
 
     made_tree : is_tree made n ≡ true
     unfolding hcaa_rows
@@ -114,8 +114,8 @@ module _ (q : HierarchyCall) (d : Distance) (l : Linkage) (cov : List Float) (ro
         ∙ sym (outcome_is ∙ then_done said _ h)
 
     pub answered_done : (a : Answer) (r : Outcome) (rows order : List ℕ) (weights scratch : List Float) (back : ℕ) → back ≡ room.scratch
-        → a ≡ down_answer (down_call q.rule.metric q.rule.inputs q.expected_given q.return_columns_lem cov n n (take (2 * (n - 1)) tree) n q.rule.clusters) room.weights back → r ≡ told_of a
-        → weights ≡ down_weights (down_call q.rule.metric q.rule.inputs q.expected_given q.return_columns_lem cov n n (take (2 * (n - 1)) tree) n q.rule.clusters) room.weights back
+        → a ≡ down_answer (down_call q.rule.metric q.rule.inputs q.expected_given q.return_columns cov n n (take (2 * (n - 1)) tree) n q.rule.clusters) room.weights back → r ≡ told_of a
+        → weights ≡ down_weights (down_call q.rule.metric q.rule.inputs q.expected_given q.return_columns cov n n (take (2 * (n - 1)) tree) n q.rule.clusters) room.weights back
         → scratch ≡ zeros back → rows ≡ laid 0 r room.rows (take (2 * (n - 1)) tree) → order ≡ laid 0 r room.order (take n leaves)
         → HierarchyAnswered q d l cov rows_in n room r rows order weights scratch
     unfolding down_answer down_weights hcaa_shares

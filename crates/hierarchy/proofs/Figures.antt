@@ -72,11 +72,11 @@ abbrev none : Inputs
 none = record { expected = []; returns = []; return_rows = 0; confidence = pz }
 
 abbrev equal : ℕ → HierarchyCall
-equal k = record { rule = record { metric = EqualWeighting; inputs = none; clusters = k }; expected_given = false; return_columns_lem = 0 }
+equal k = record { rule = record { metric = EqualWeighting; inputs = none; clusters = k }; expected_given = false; return_columns = 0 }
 
 -- expected returns of no entries, given or not
 abbrev expecting : Metric → Bool → HierarchyCall
-expecting m g = record { rule = record { metric = m; inputs = none; clusters = 0 }; expected_given = g; return_columns_lem = 0 }
+expecting m g = record { rule = record { metric = m; inputs = none; clusters = 0 }; expected_given = g; return_columns = 0 }
 
 -- return rows of so many columns in a slice of so many, and the bits of a confidence; 0 clusters
 abbrev tailed : Metric → ℕ → ℕ → ℕ → ℕ → HierarchyCall
@@ -84,7 +84,7 @@ tailed m len rows w q =
     record {
       rule = record { metric = m; inputs = record { expected = []; returns = replicate len pz; return_rows = rows; confidence = of_bits binary64 q }; clusters = 0 };
       expected_given = false;
-      return_columns_lem = w;
+      return_columns = w;
     }
 
 -- the bits of 0, 1/4, the double nearest 1/3, 1/2, 1, the root of 2, and infinity

@@ -48,9 +48,9 @@ pub record Judged (q : HierarchyCall) (n len : ℕ) (room : Room) : Type 0 where
   pub least : 1 ≤ q.rule.clusters
   pub cut : q.rule.clusters ≤ n
   pub expects : is_sharpe q.rule.metric ≡ true → (q.expected_given ≡ true) × (length q.rule.inputs.expected ≡ n)
-  pub limits : over_limit q.rule.inputs.return_rows q.return_columns_lem ≡ false
-  pub returns : length q.rule.inputs.returns ≡ q.rule.inputs.return_rows * q.return_columns_lem
-  pub feeds : is_tail_risk q.rule.metric ≡ true → Feeding q.rule.inputs q.return_columns_lem n
+  pub limits : over_limit q.rule.inputs.return_rows q.return_columns ≡ false
+  pub returns : length q.rule.inputs.returns ≡ q.rule.inputs.return_rows * q.return_columns
+  pub feeds : is_tail_risk q.rule.metric ≡ true → Feeding q.rule.inputs q.return_columns n
 
 module _ (q : HierarchyCall) (len rows w : ℕ) (room : Room) (said : Outcome) (e : said ≡ first (hierarchy_judge_table q len rows w room)) where
   pub judged : said ≡ Done → Judged q w len room
@@ -80,8 +80,8 @@ module _ (q : HierarchyCall) (len rows w : ℕ) (room : Room) (said : Outcome) (
         cut = ltb-false w q.rule.clusters k.1;
         expects = expecting _ q.expected_given (length q.rule.inputs.expected) w x.0 x.1.0;
         limits = g.0;
-        returns = same_length (length q.rule.inputs.returns) q.rule.inputs.return_rows q.return_columns_lem g.1.1.1.0;
-        feeds = feeding q.rule.metric q.rule.inputs q.return_columns_lem w h.1.1.0 x.1.1.0 x.1.1.1.0;
+        returns = same_length (length q.rule.inputs.returns) q.rule.inputs.return_rows q.return_columns g.1.1.1.0;
+        feeds = feeding q.rule.metric q.rule.inputs q.return_columns w h.1.1.0 x.1.1.0 x.1.1.1.0;
       }
 
   pub sown : Sown said len w room.scratch

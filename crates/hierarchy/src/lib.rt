@@ -128,7 +128,7 @@ pub fn allocate_covariance(
             clusters = clusters;
           };
           expected_given = expected_given;
-          return_columns_lem = return_columns;
+          return_columns = return_columns;
         })
         distance linkage covariance.now rows_in columns
         (record {

@@ -101,7 +101,7 @@ abbrev pub side_call : Inputs → List Float → ℕ → ℕ → List ℕ → Me
 side_call x cov n room side = record {
   returns = x.returns;
   return_rows = x.return_rows;
-  return_columns_lem = n;
+  return_columns = n;
   covariance = cov;
   covariance_rows = n;
   covariance_columns = n;

@@ -146,9 +146,9 @@ pub record Right (q : DownCall) (room scratch : ℕ) : Type 0 where
   pub cut : q.clusters ≤ q.assets
   pub expects : is_sharpe q.metric ≡ true → (q.expected_given ≡ true) × (length q.inputs.expected ≡ q.assets)
   pub enough : least_scratch ≤ scratch
-  pub limits : over_limit q.inputs.return_rows q.return_columns_lem ≡ false
-  pub returns : length q.inputs.returns ≡ q.inputs.return_rows * q.return_columns_lem
-  pub feeds : is_tail_risk q.metric ≡ true → Feeding q.inputs q.return_columns_lem q.assets
+  pub limits : over_limit q.inputs.return_rows q.return_columns ≡ false
+  pub returns : length q.inputs.returns ≡ q.inputs.return_rows * q.return_columns
+  pub feeds : is_tail_risk q.metric ≡ true → Feeding q.inputs q.return_columns q.assets
 
 pub neither : (a b : Bool) → (a || b) ≡ false → (a ≡ false) × (b ≡ false)
 neither true b e = absurd (let z : ◌≡◌ {A = ℕ} 0 1 = cc in omega arith)
@@ -215,8 +215,8 @@ module _ (q : DownCall) (room scratch : ℕ) where
         expects = expecting (is_sharpe q.metric) q.expected_given (length q.inputs.expected) q.assets a.1.1.1.1.1.1.1.1.0 a.1.1.1.1.1.1.1.1.1.1.1.1.0;
         enough = ltb-false scratch 8192 a.1.1.1.1.1.1.0;
         limits = a.1.1.0;
-        returns = same_length (length q.inputs.returns) q.inputs.return_rows q.return_columns_lem a.1.1.1.1.0;
-        feeds = feeding q.metric q.inputs q.return_columns_lem q.assets a.1.1.1.1.1.1.1.1.1.0 a.1.1.1.1.1.1.1.1.1.1.1.1.1.0 a.1.1.1.1.1.1.1.1.1.1.1.1.1.1.0;
+        returns = same_length (length q.inputs.returns) q.inputs.return_rows q.return_columns a.1.1.1.1.0;
+        feeds = feeding q.metric q.inputs q.return_columns q.assets a.1.1.1.1.1.1.1.1.1.0 a.1.1.1.1.1.1.1.1.1.1.1.1.1.0 a.1.1.1.1.1.1.1.1.1.1.1.1.1.1.0;
       }
 
   module _ (p : Right q room scratch) where
@@ -232,15 +232,15 @@ module _ (q : DownCall) (room scratch : ℕ) where
         let z : length q.covariance ≡ q.covariance_rows * q.covariance_columns = rw (p.height, p.width) p.cells in
         rw (eq-eqb (length q.covariance) (q.covariance_rows * q.covariance_columns) z)
 
-    whole_returns : other_length (length q.inputs.returns) q.inputs.return_rows q.return_columns_lem ≡ false
+    whole_returns : other_length (length q.inputs.returns) q.inputs.return_rows q.return_columns ≡ false
     unfolding other_length
-    whole_returns = rw (eq-eqb (length q.inputs.returns) (q.inputs.return_rows * q.return_columns_lem) p.returns)
+    whole_returns = rw (eq-eqb (length q.inputs.returns) (q.inputs.return_rows * q.return_columns) p.returns)
 
     pub right_passes : first (down_given q room scratch) ≡ Done
     unfolding down_given down_size_lines down_rule_lines other_rows metric_tail_lines
     right_passes =
         let x = expected_right (is_sharpe q.metric) q.expected_given (length q.inputs.expected) q.assets p.expects in
-        let f = fed_right (is_tail_risk q.metric) q.inputs q.return_columns_lem q.assets p.feeds in
+        let f = fed_right (is_tail_risk q.metric) q.inputs q.return_columns q.assets p.feeds in
         let one : 1 ≤ q.assets = p.some in
         let two : 1 ≤ q.clusters = p.least in
         all_no (down_given q room scratch) (le-ltb 64 q.assets p.most, (small, (p.limits, (whole, (whole_returns, (le-ltb room q.assets p.fits, (le-ltb scratch 8192 p.enough, (rw (eq-eqb q.covariance_rows q.assets p.height, eq-eqb q.covariance_columns q.assets p.width), (x.0, (f.0, (ne_eqb q.assets 0 (λ e. omega arith), (rw p.tree, (x.1, (f.1, (f.2, (rw (ne_eqb q.clusters 0 (λ e. omega arith), le-ltb q.assets q.clusters p.cut), tt))))))))))))))))
@@ -364,9 +364,9 @@ cleared_blank {after = after} m h e =
 
 pub sizes_said : (s : DownSizes) (other ragged misfit many big : Bool) (o1 o2 o3 o4 o5 o6 o7 o8 : Outcome)
     → other ≡ (not (eqb s.covariance_rows s.assets) || not (eqb s.covariance_columns s.assets))
-    → ragged ≡ other_length s.return_cells s.return_rows s.return_columns_lem
+    → ragged ≡ other_length s.return_cells s.return_rows s.return_columns
     → misfit ≡ other_length s.covariance_cells s.covariance_rows s.covariance_columns
-    → many ≡ over_limit s.return_rows s.return_columns_lem
+    → many ≡ over_limit s.return_rows s.return_columns
     → big ≡ over_limit s.covariance_rows s.covariance_columns
     → o1 ≡ or_else other DimensionMismatch Done
     → o2 ≡ or_else (ltb s.scratch 8192) ShortBuffer o1
@@ -387,7 +387,7 @@ pub rules_said : (r : DownRules) (sharpe tail missing wrong unexpected present o
     → missing ≡ (sharpe && not r.expected_given)
     → wrong ≡ (r.expected_given && not (eqb r.expected_length r.assets))
     → unexpected ≡ (sharpe && wrong)
-    → present ≡ (ltb 0 r.return_rows && not (eqb r.return_columns_lem r.assets))
+    → present ≡ (ltb 0 r.return_rows && not (eqb r.return_columns r.assets))
     → other-rows ≡ (tail && present)
     → no_rows ≡ (tail && eqb r.return_rows 0)
     → off ≡ no_part r.confidence

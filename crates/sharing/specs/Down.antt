@@ -41,7 +41,7 @@ pub record DownCall : Type 0 where
   pub metric : Metric
   pub inputs : Inputs
   pub expected_given : Bool
-  pub return_columns_lem : ℕ
+  pub return_columns : ℕ
   pub covariance : List Float
   pub covariance_rows : ℕ
   pub covariance_columns : ℕ
@@ -57,7 +57,7 @@ pub record DownSizes : Type 0 where
   pub covariance_columns : ℕ
   pub return_cells : ℕ
   pub return_rows : ℕ
-  pub return_columns_lem : ℕ
+  pub return_columns : ℕ
   pub room : ℕ
   pub scratch : ℕ
 
@@ -66,9 +66,9 @@ unfoldable pub down_size_lines : DownSizes → List Line
 down_size_lines s =
     (ltb most_assets s.assets, OverLimit)
     ∷ (over_limit s.covariance_rows s.covariance_columns, OverLimit)
-    ∷ (over_limit s.return_rows s.return_columns_lem, OverLimit)
+    ∷ (over_limit s.return_rows s.return_columns, OverLimit)
     ∷ (other_length s.covariance_cells s.covariance_rows s.covariance_columns, SliceLength)
-    ∷ (other_length s.return_cells s.return_rows s.return_columns_lem, SliceLength)
+    ∷ (other_length s.return_cells s.return_rows s.return_columns, SliceLength)
     ∷ (ltb s.room s.assets, ShortBuffer)
     ∷ (ltb s.scratch least_scratch, ShortBuffer)
     ∷ (not (eqb s.covariance_rows s.assets) || not (eqb s.covariance_columns s.assets), DimensionMismatch)
@@ -80,7 +80,7 @@ pub record DownRules : Type 0 where
   pub expected_given : Bool
   pub expected_length : ℕ
   pub return_rows : ℕ
-  pub return_columns_lem : ℕ
+  pub return_columns : ℕ
   pub confidence : Float
   pub rows : List ℕ
   pub assets : ℕ
@@ -91,7 +91,7 @@ unfoldable pub down_rule_lines : DownRules → List Line
 unfolding is_sharpe other_rows metric_tail_lines
 down_rule_lines r =
     length_line r.metric r.expected_given r.expected_length r.assets
-    ∷ (other_rows r.metric r.return_rows r.return_columns_lem r.assets, DimensionMismatch)
+    ∷ (other_rows r.metric r.return_rows r.return_columns r.assets, DimensionMismatch)
     ∷ (eqb r.assets 0, NoData)
     ∷ (not (is_tree r.rows r.assets), NoTree)
     ∷ lack_line r.metric (not r.expected_given)
@@ -107,7 +107,7 @@ down_sizes q room scratch = record {
   covariance_columns = q.covariance_columns;
   return_cells = length q.inputs.returns;
   return_rows = q.inputs.return_rows;
-  return_columns_lem = q.return_columns_lem;
+  return_columns = q.return_columns;
   room = room;
   scratch = scratch;
 }
@@ -119,7 +119,7 @@ down_rules q = record {
   expected_given = q.expected_given;
   expected_length = length q.inputs.expected;
   return_rows = q.inputs.return_rows;
-  return_columns_lem = q.return_columns_lem;
+  return_columns = q.return_columns;
   confidence = q.inputs.confidence;
   rows = q.rows;
   assets = q.assets;

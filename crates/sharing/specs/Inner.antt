@@ -41,4 +41,4 @@ pub record Down (metric : Metric) (x : Inputs) (rows : List ℕ) (n k v : ℕ) (
 -- a call by its parts
 abbrev pub down_call : Metric → Inputs → Bool → ℕ → List Float → ℕ → ℕ → List ℕ → ℕ → ℕ → DownCall
 down_call metric x given w cov r c rows n k =
-    record { metric = metric; inputs = x; expected_given = given; return_columns_lem = w; covariance = cov; covariance_rows = r; covariance_columns = c; rows = rows; assets = n; clusters = k }
+    record { metric = metric; inputs = x; expected_given = given; return_columns = w; covariance = cov; covariance_rows = r; covariance_columns = c; rows = rows; assets = n; clusters = k }

@@ -286,7 +286,7 @@ fn judge_sizes(
       covariance_columns = width;
       return_cells = return_cells;
       return_rows = return_rows;
-      return_columns_lem = return_columns;
+      return_columns = return_columns;
       room = room;
       scratch = scratch;
     })) }
@@ -322,7 +322,7 @@ fn judge_rules(
       expected_given = given;
       expected_length = expected;
       return_rows = return_rows;
-      return_columns_lem = return_columns;
+      return_columns = return_columns;
       confidence = confidence;
       rows = rows.now;
       assets = n;
@@ -383,7 +383,7 @@ pub fn allocate_down_tree(
           metric = metric;
           inputs = record { expected = expected.entry.now; returns = returns.now; return_rows = return_rows; confidence = confidence };
           expected_given = expected_given;
-          return_columns_lem = return_columns;
+          return_columns = return_columns;
           covariance = covariance.now;
           covariance_rows = covariance_rows;
           covariance_columns = covariance_columns;
@@ -397,7 +397,7 @@ pub fn allocate_down_tree(
           metric = metric;
           inputs = record { expected = expected.entry.now; returns = returns.now; return_rows = return_rows; confidence = confidence };
           expected_given = expected_given;
-          return_columns_lem = return_columns;
+          return_columns = return_columns;
           covariance = covariance.now;
           covariance_rows = covariance_rows;
           covariance_columns = covariance_columns;

@@ -47,7 +47,7 @@ abbrev of : List ℕ → MeasureCall
 of assets = record {
   returns = rows;
   return_rows = 2;
-  return_columns_lem = 2;
+  return_columns = 2;
   covariance = cov;
   covariance_rows = 2;
   covariance_columns = 2;
@@ -61,7 +61,7 @@ abbrev unsure : List Float → ℕ → ℕ → MeasureCall
 unsure returns return_rows room = record {
   returns = returns;
   return_rows = return_rows;
-  return_columns_lem = 2;
+  return_columns = 2;
   covariance = cov;
   covariance_rows = 2;
   covariance_columns = 2;

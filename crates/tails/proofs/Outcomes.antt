@@ -104,10 +104,10 @@ module _ (m : MeasureCall) where
     ready_of w e k =
         let a = none (measure_size_lines m) s in
         let b = none (measure_shape_lines m ++ tail_lines true m.return_rows m.confidence) t in
-        let l = within_limit m.return_rows m.return_columns_lem a.0 in
-        let z : length m.returns ≡ m.return_rows * m.return_columns_lem = same_length _ _ _ a.1.1.1.1.0 in
+        let l = within_limit m.return_rows m.return_columns a.0 in
+        let z : length m.returns ≡ m.return_rows * m.return_columns = same_length _ _ _ a.1.1.1.1.0 in
         let n : m.return_rows ≡ 0 → ⊥ = eqb-false m.return_rows 0 b.1.1.1.0 in
-        let c : m.return_columns_lem ≡ m.covariance_columns = eqb-true _ _ (other_no (ltb 0 m.return_rows) (eqb m.return_columns_lem m.covariance_columns) b.1.0 (lt-ltb 0 m.return_rows (omega arith))) in
+        let c : m.return_columns ≡ m.covariance_columns = eqb-true _ _ (other_no (ltb 0 m.return_rows) (eqb m.return_columns m.covariance_columns) b.1.0 (lt-ltb 0 m.return_rows (omega arith))) in
         let f = ltb-false 64 (length m.assets) a.1.1.0 in
         record {
           held = record {

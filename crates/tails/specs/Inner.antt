@@ -21,4 +21,4 @@ pub record TailReady (returns : List Float) (rows n : ℕ) (assets : List ℕ) (
 -- a call by its parts
 abbrev pub measure_call : List Float → ℕ → ℕ → List Float → ℕ → ℕ → List ℕ → Float → ℕ → MeasureCall
 measure_call xs h c cov rows w assets q room =
-    record { returns = xs; return_rows = h; return_columns_lem = c; covariance = cov; covariance_rows = rows; covariance_columns = w; assets = assets; confidence = q; room = room }
+    record { returns = xs; return_rows = h; return_columns = c; covariance = cov; covariance_rows = rows; covariance_columns = w; assets = assets; confidence = q; room = room }

@@ -13,7 +13,7 @@ use Rattle.tails.specs.Tail.{shortfall_of, drawdown_of}
 pub record MeasureCall : Type 0 where
   pub returns : List Float
   pub return_rows : ℕ
-  pub return_columns_lem : ℕ
+  pub return_columns : ℕ
   pub covariance : List Float
   pub covariance_rows : ℕ
   pub covariance_columns : ℕ
@@ -26,9 +26,9 @@ pub record MeasureCall : Type 0 where
 unfoldable pub measure_size_lines : MeasureCall → List Line
 unfolding size_table
 measure_size_lines m =
-    (over_limit m.return_rows m.return_columns_lem, OverLimit)
+    (over_limit m.return_rows m.return_columns, OverLimit)
     ∷ (size_table m.covariance m.covariance_rows m.covariance_columns m.assets
-    ++ ((other_length (length m.returns) m.return_rows m.return_columns_lem, SliceLength) ∷ (ltb m.room (m.return_rows + 1), ShortBuffer) ∷ []))
+    ++ ((other_length (length m.returns) m.return_rows m.return_columns, SliceLength) ∷ (ltb m.room (m.return_rows + 1), ShortBuffer) ∷ []))
 
 -- "return rows present with columns other than n" (3)
 abbrev pub other_width : ℕ → ℕ → ℕ → Bool
@@ -39,7 +39,7 @@ unfoldable pub measure_shape_lines : MeasureCall → List Line
 unfolding outside
 measure_shape_lines m =
     not_square m.covariance_rows m.covariance_columns
-    ∷ (other_width m.return_rows m.return_columns_lem m.covariance_columns, DimensionMismatch)
+    ∷ (other_width m.return_rows m.return_columns m.covariance_columns, DimensionMismatch)
     ∷ outside_line m.covariance_columns m.assets
     ∷ []
 

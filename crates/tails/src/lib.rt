@@ -461,7 +461,7 @@ pub fn cluster_expected_shortfall(
         (record {
           returns = returns.entry.now;
           return_rows = return_rows;
-          return_columns_lem = return_columns;
+          return_columns = return_columns;
           covariance = covariance.now;
           covariance_rows = rows;
           covariance_columns = columns;
@@ -513,7 +513,7 @@ pub fn cluster_conditional_drawdown(
         (record {
           returns = returns.entry.now;
           return_rows = return_rows;
-          return_columns_lem = return_columns;
+          return_columns = return_columns;
           covariance = covariance.now;
           covariance_rows = rows;
           covariance_columns = columns;

@@ -33,10 +33,10 @@ returns c =
     record {
       rule = record { metric = a.metric; inputs = record { expected = a.expected.now; returns = a.returns.now; return_rows = a.return_rows; confidence = a.confidence }; clusters = a.clusters };
       expected_given = a.given;
-      return_columns_lem = a.return_columns_lem;
+      return_columns = a.return_columns;
     }
     in
-    judge_said q _ _ _ _ _ _ _ _ _ _ _ (c.before.before.before.before.before.before.judge-sizes.ensures a.metric a.expected.now a.confidence a.given a.clusters) c.before.before.before.before.before.judge-rooms.ensures (c.before.before.before.before.judge-shape.ensures a.expected.now a.returns.now a.confidence a.given a.clusters) (c.before.before.before.judge-rule.ensures a.returns.now a.return_columns_lem) c.before.before.and_then.ensures c.before.and-then2.ensures c.and-then3.ensures
+    judge_said q _ _ _ _ _ _ _ _ _ _ _ (c.before.before.before.before.before.before.judge-sizes.ensures a.metric a.expected.now a.confidence a.given a.clusters) c.before.before.before.before.before.judge-rooms.ensures (c.before.before.before.before.judge-shape.ensures a.expected.now a.returns.now a.confidence a.given a.clusters) (c.before.before.before.judge-rule.ensures a.returns.now a.return_columns) c.before.before.and_then.ensures c.before.and-then2.ensures c.and-then3.ensures
 
 pub judge_spec : {M : Type 1} → statement M
 judge_spec =

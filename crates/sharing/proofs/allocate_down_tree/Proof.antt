@@ -14,7 +14,7 @@ use Rattle.sharing.proofs.allocate_down_tree.Tie as tie
 
 -- the call, as the function is entered with it
 abbrev asked : tie.Start → DownCall
-asked s = down_call s.args.metric (inputs s.args.expected.now s.args.returns.now s.args.return_rows s.args.confidence) s.args.expected_given s.args.return_columns_lem
+asked s = down_call s.args.metric (inputs s.args.expected.now s.args.returns.now s.args.return_rows s.args.confidence) s.args.expected_given s.args.return_columns
     s.args.covariance.now s.args.covariance_rows s.args.covariance_columns s.args.rows.now s.args.n s.args.clusters
 
 -- what the two judges said, joined

@@ -18,7 +18,7 @@ slice-aggregate-shortfall-after : tie.Need-slice-aggregate-shortfall-after
 slice-aggregate-shortfall-after c = search rules
 
 shortfall-after-requires : tie.Need-shortfall-after-requires
-shortfall-after-requires c κs = let m = (measure_call c.before.before.before.before.before.before.before.before.before.args.returns.now c.before.before.before.before.before.before.before.before.before.args.return_rows c.before.before.before.before.before.before.before.before.before.args.return_columns_lem c.before.before.before.before.before.before.before.before.before.args.covariance.now c.before.before.before.before.before.before.before.before.before.args.rows c.before.before.before.before.before.before.before.before.before.args.columns c.before.before.before.before.before.before.before.before.before.args.assets.now c.before.before.before.before.before.before.before.before.before.args.confidence (length c.before.before.before.before.before.before.before.before.before.args.series.now)) in ready m _ _ c.before.before.before.weigh.ensures.0 c.before.before.before.weigh.ensures.1 (search rules)
+shortfall-after-requires c κs = let m = (measure_call c.before.before.before.before.before.before.before.before.before.args.returns.now c.before.before.before.before.before.before.before.before.before.args.return_rows c.before.before.before.before.before.before.before.before.before.args.return_columns c.before.before.before.before.before.before.before.before.before.args.covariance.now c.before.before.before.before.before.before.before.before.before.args.rows c.before.before.before.before.before.before.before.before.before.args.columns c.before.before.before.before.before.before.before.before.before.args.assets.now c.before.before.before.before.before.before.before.before.before.args.confidence (length c.before.before.before.before.before.before.before.before.before.args.series.now)) in ready m _ _ c.before.before.before.weigh.ensures.0 c.before.before.before.weigh.ensures.1 (search rules)
 
 ended-requires : tie.Need-ended-requires
 ended-requires c κs = search rules
@@ -27,7 +27,7 @@ same_length : tie.Need-same-length
 same_length c = c.before.before.ended.auto.1.0 ∙ c.before.before.before.before.before.before.shortfall-after.auto.1.1.1.1.1.1.1.0
 
 returns : tie.Need-returns
-returns c = let m = (measure_call c.before.before.before.before.before.before.before.before.before.before.before.before.before.before.before.before.args.returns.now c.before.before.before.before.before.before.before.before.before.before.before.before.before.before.before.before.args.return_rows c.before.before.before.before.before.before.before.before.before.before.before.before.before.before.before.before.args.return_columns_lem c.before.before.before.before.before.before.before.before.before.before.before.before.before.before.before.before.args.covariance.now c.before.before.before.before.before.before.before.before.before.before.before.before.before.before.before.before.args.rows c.before.before.before.before.before.before.before.before.before.before.before.before.before.before.before.before.args.columns c.before.before.before.before.before.before.before.before.before.before.before.before.before.before.before.before.args.assets.now c.before.before.before.before.before.before.before.before.before.before.before.before.before.before.before.before.args.confidence (length c.before.before.before.before.before.before.before.before.before.before.before.before.before.before.before.before.args.series.now)) in (c.before.before.ended.ensures.0 ∙ shortfall_answered m _ _ c.before.before.before.before.before.before.before.before.before.before.weigh.ensures.0 c.before.before.before.before.before.before.before.before.before.before.weigh.ensures.1 _ c.before.before.before.before.before.before.shortfall-after.ensures, c.before.before.ended.ensures.1 ∙ ap zeros c.before.before.before.before.before.before.shortfall-after.auto.1.1.1.1.1.1.1.0)
+returns c = let m = (measure_call c.before.before.before.before.before.before.before.before.before.before.before.before.before.before.before.before.args.returns.now c.before.before.before.before.before.before.before.before.before.before.before.before.before.before.before.before.args.return_rows c.before.before.before.before.before.before.before.before.before.before.before.before.before.before.before.before.args.return_columns c.before.before.before.before.before.before.before.before.before.before.before.before.before.before.before.before.args.covariance.now c.before.before.before.before.before.before.before.before.before.before.before.before.before.before.before.before.args.rows c.before.before.before.before.before.before.before.before.before.before.before.before.before.before.before.before.args.columns c.before.before.before.before.before.before.before.before.before.before.before.before.before.before.before.before.args.assets.now c.before.before.before.before.before.before.before.before.before.before.before.before.before.before.before.before.args.confidence (length c.before.before.before.before.before.before.before.before.before.before.before.before.before.before.before.before.args.series.now)) in (c.before.before.ended.ensures.0 ∙ shortfall_answered m _ _ c.before.before.before.before.before.before.before.before.before.before.weigh.ensures.0 c.before.before.before.before.before.before.before.before.before.before.weigh.ensures.1 _ c.before.before.before.before.before.before.shortfall-after.ensures, c.before.before.ended.ensures.1 ∙ ap zeros c.before.before.before.before.before.before.shortfall-after.auto.1.1.1.1.1.1.1.0)
 
 pub cluster_expected_shortfall_spec : {M : Type 1} → statement M
 cluster_expected_shortfall_spec =

@@ -24,7 +24,7 @@ enum-told-2 c = search rules
 
 returns : tie.Need-returns
 returns c =
-    let m = (measure_call c.before.before.before.before.before.before.before.before.before.args.returns.now c.before.before.before.before.before.before.before.before.before.args.return_rows c.before.before.before.before.before.before.before.before.before.args.return_columns_lem c.before.before.before.before.before.before.before.before.before.args.covariance.now c.before.before.before.before.before.before.before.before.before.args.rows c.before.before.before.before.before.before.before.before.before.args.columns c.before.before.before.before.before.before.before.before.before.args.assets.now c.before.before.before.before.before.before.before.before.before.args.confidence c.before.before.before.before.before.before.before.before.before.args.room) in
+    let m = (measure_call c.before.before.before.before.before.before.before.before.before.args.returns.now c.before.before.before.before.before.before.before.before.before.args.return_rows c.before.before.before.before.before.before.before.before.before.args.return_columns c.before.before.before.before.before.before.before.before.before.args.covariance.now c.before.before.before.before.before.before.before.before.before.args.rows c.before.before.before.before.before.before.before.before.before.args.columns c.before.before.before.before.before.before.before.before.before.args.assets.now c.before.before.before.before.before.before.before.before.before.args.confidence c.before.before.before.before.before.before.before.before.before.args.room) in
     let j : Judged m c.before.before.and_then.result c.before.before.before.before.judge-sizes.result c.before.before.before.judge-shape.result = record { of_sizes = c.before.before.before.before.judge-sizes.ensures; of_shape = c.before.before.before.judge-shape.ensures; of_both = c.before.before.and_then.ensures } in
     (c.enum-told2.given.1 ∙ stays_refused m j _ c.enum-told2.given.1, λ d. absurd (done_refused _ (sym d ∙ c.enum-told2.given.1)))
 
@@ -39,7 +39,7 @@ same_length c = c.before.before.before.inverse-variance-weights.auto.1.1.1.1.0
 
 returns_2 : tie.Need-returns-2
 returns_2 c =
-    let m = (measure_call c.before.before.before.before.before.before.before.before.before.before.before.before.before.before.args.returns.now c.before.before.before.before.before.before.before.before.before.before.before.before.before.before.args.return_rows c.before.before.before.before.before.before.before.before.before.before.before.before.before.before.args.return_columns_lem c.before.before.before.before.before.before.before.before.before.before.before.before.before.before.args.covariance.now c.before.before.before.before.before.before.before.before.before.before.before.before.before.before.args.rows c.before.before.before.before.before.before.before.before.before.before.before.before.before.before.args.columns c.before.before.before.before.before.before.before.before.before.before.before.before.before.before.args.assets.now c.before.before.before.before.before.before.before.before.before.before.before.before.before.before.args.confidence c.before.before.before.before.before.before.before.before.before.before.before.before.before.before.args.room) in
+    let m = (measure_call c.before.before.before.before.before.before.before.before.before.before.before.before.before.before.args.returns.now c.before.before.before.before.before.before.before.before.before.before.before.before.before.before.args.return_rows c.before.before.before.before.before.before.before.before.before.before.before.before.before.before.args.return_columns c.before.before.before.before.before.before.before.before.before.before.before.before.before.before.args.covariance.now c.before.before.before.before.before.before.before.before.before.before.before.before.before.before.args.rows c.before.before.before.before.before.before.before.before.before.before.before.before.before.before.args.columns c.before.before.before.before.before.before.before.before.before.before.before.before.before.before.args.assets.now c.before.before.before.before.before.before.before.before.before.before.before.before.before.before.args.confidence c.before.before.before.before.before.before.before.before.before.before.before.before.before.before.args.room) in
     let j : Judged m c.before.before.before.before.before.before.before.and_then.result c.before.before.before.before.before.before.before.before.before.judge-sizes.result c.before.before.before.before.before.before.before.before.judge-shape.result = record { of_sizes = c.before.before.before.before.before.before.before.before.before.judge-sizes.ensures; of_shape = c.before.before.before.before.before.before.before.before.judge-shape.ensures; of_both = c.before.before.before.before.before.before.before.and_then.ensures } in
     weighed m j c.before.before.before.before.before.enum_told.given.1 _ c.before.before.before.before.before.before.before.before.before.before.before.before.before.before.requires _ _ _ c.before.before.before.inverse-variance-weights.ensures.0 c.before.before.before.inverse-variance-weights.ensures.1 c.told.ensures
 
