@@ -1,4 +1,5 @@
 // What a call of the allocation on a covariance must have.
+#![tactic(auto)]
 
 ghost use Rattle.std.specs.Prelude.{◌≡◌, Bool, List, ◌++◌, ℕ, Float};
 ghost use Rattle.refusal.specs.Table.{first, and_then};

@@ -1,4 +1,6 @@
 // Document 01's arithmetic on doubles that the language does not have as one operation. Every function is total.
+#![tactic(auto)]
+
 ghost use Rattle.std.specs.Prelude.{◌≡◌, from_bits, to_bits};
 ghost use Rattle.std.specs.Float.{binary64};
 ghost use Rattle.arithmetic.specs.Arithmetic.{max_of, min_of, clamp_of, abs_of, finite_of, count_of, one_over};

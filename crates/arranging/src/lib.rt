@@ -1,4 +1,5 @@
 // From correlations to the tree and its leaf order, as both allocators need them.
+#![tactic(auto)]
 
 ghost use Rattle.std.specs.Prelude.{◌≡◌, ◌-◌, ◌*◌, ◌≤◌, length};
 ghost use Rattle.refusal.specs.Table.{first};

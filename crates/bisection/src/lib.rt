@@ -1,4 +1,5 @@
 // Sharing out by halves of the leaf order, as HRP does.
+#![tactic(auto)]
 
 ghost use Rattle.std.specs.Prelude.{◌≡◌, ℕ, ◌<◌, length, get_or, set};
 ghost use Rattle.std.specs.Float.{nan, binary64};

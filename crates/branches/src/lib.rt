@@ -1,4 +1,5 @@
 // A summary of a tree: for each node its first place in the leaf order, its size and its depth; and a node's members as a part of that order.
+#![tactic(auto)]
 
 ghost use Rattle.std.specs.Prelude.{◌≡◌, ◌+◌, ◌-◌, ◌*◌, ◌≤◌, ◌<◌, length};
 ghost use Rattle.lent.specs.Grid.{tab, over};

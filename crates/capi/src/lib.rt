@@ -1,4 +1,5 @@
 // The C interface: what rovignesc.h declares.
+#![tactic(auto)]
 
 ghost use Rattle.std.specs.Prelude.{◌≡◌, length};
 ghost use Rattle.arithmetic.specs.Root.{root};

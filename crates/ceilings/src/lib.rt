@@ -1,4 +1,5 @@
 // Ceilings for single holdings: figures cut to them, and what was cut handed out in order.
+#![tactic(auto)]
 
 ghost use Rattle.std.specs.Prelude.{◌≡◌, min, length};
 ghost use Rattle.refusal.specs.Table.{first};

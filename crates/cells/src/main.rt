@@ -1,5 +1,7 @@
 // Reads a cell from each line, and writes for it 0 and the bits of its double, or the number of its refusal, as hex digits.
 // oracle/decimals.py makes the lines that it is run on, and the answers.
+#![tactic(auto)]
+
 use channel::Input;
 use fields::Cell;
 use refusal::Refusal;

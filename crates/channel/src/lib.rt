@@ -1,5 +1,7 @@
 // Standard input and output for the programs. A read that fails is not the end of the text, and a write that fails does not go unnoticed: a line on standard
 // error says what happened. What was read or written no contract can say.
+#![tactic(auto)]
+
 ghost use Rattle.std.specs.Prelude.{◌≡◌, true, length};
 ghost use Rattle.channel.specs.Channel.{IsRead, IsWhole};
 

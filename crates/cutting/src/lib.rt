@@ -1,4 +1,5 @@
 // The month-end report on input that is read as it comes: bytes cut into lines.
+#![tactic(auto)]
 
 ghost use Rattle.std.specs.Prelude.{◌≡◌, List, ℕ, ◌≤◌, ◌<◌, length};
 ghost use Rattle.refusal.specs.Table.{first};

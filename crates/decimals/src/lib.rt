@@ -1,4 +1,5 @@
 // Cells that are ordinary decimals, or 16 hex digits. Every public function is total.
+#![tactic(auto)]
 
 ghost use Rattle.std.specs.Prelude.{◌≡◌, ◌-◌, ◌^◌, ◌≤◌, ◌<◌, length};
 ghost use Rattle.fields.specs.Inner.{spelled_after};

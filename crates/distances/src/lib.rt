@@ -1,4 +1,5 @@
 // Distances of correlations, and distances of distances: square matrices in slices, row after row.
+#![tactic(auto)]
 
 ghost use Rattle.std.specs.Prelude.{◌≡◌, ◌+◌, ◌*◌, ◌<◌, ◌≤◌, length, set};
 ghost use Rattle.lent.specs.Grid.{cell, grid, over};

@@ -1,4 +1,5 @@
 // Bytes cut at a byte, and numerals in bases 10 and 16.
+#![tactic(auto)]
 
 ghost use Rattle.std.specs.Prelude.{◌≡◌, ◌-◌, ◌≤◌, length};
 ghost use Rattle.fields.specs.Split.{split, end_of, last_piece, piece as piece_of};

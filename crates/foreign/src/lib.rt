@@ -1,4 +1,5 @@
 // What a call from C hands in, read and judged before the call behind it is made: numbers, flags, names, sizes.
+#![tactic(auto)]
 
 ghost use Rattle.std.specs.Prelude.{◌≡◌, length};
 ghost use Rattle.refusal.specs.Table.{first, and_then};

@@ -1,4 +1,5 @@
 // The whole part and the exact fraction of a weight in millionths, by integer arithmetic on its bits, and who comes first by the fractions.
+#![tactic(auto)]
 
 ghost use Rattle.std.specs.Prelude.{◌≡◌, true, ◌&&◌, ◌||◌, ◌+◌, ◌-◌, ◌*◌, ◌/◌, ◌%◌, ◌^◌, ◌≤◌, ◌<◌, min, ltb, eqb, length};
 ghost use Rattle.arithmetic.specs.Inner.{worth};

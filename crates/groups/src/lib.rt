@@ -1,4 +1,5 @@
 // The group lines of a sheet: a line per node of a tree, from the root down, left first.
+#![tactic(auto)]
 
 ghost use Rattle.std.specs.Prelude.{◌≡◌, ◌+◌, ◌-◌, ◌*◌, ◌≤◌, length};
 ghost use Rattle.refusal.specs.Table.{first};

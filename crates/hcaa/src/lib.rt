@@ -1,4 +1,5 @@
 // Hierarchical clustering-based asset allocation: what is given, the returns, covariance and expected returns made from it where they are not, and the allocation on those.
+#![tactic(auto)]
 
 ghost use Rattle.std.specs.Prelude.{◌≡◌, Bool, List, ℕ, ◌*◌, length, take};
 ghost use Rattle.refusal.specs.Table.{first};

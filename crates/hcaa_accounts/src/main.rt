@@ -1,5 +1,7 @@
 // Replays recorded accounts of HCAA. Reads them from standard input and writes the answers to standard output; both are lines of hex tokens, as
 // oracle/README.md says. oracle/rust records them from the published Rust.
+#![tactic(auto)]
+
 use channel::Input;
 use hcaa::Clusters;
 use linkage::{Distance, Linkage};

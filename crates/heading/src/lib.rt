@@ -1,4 +1,5 @@
 // The first line of a job text: which allocator it asks for, how, and whether prices and ceilings follow it.
+#![tactic(auto)]
 
 ghost use Rattle.std.specs.Prelude.{◌≡◌, ◌≤◌};
 ghost use Rattle.lent.specs.Count.{one};

@@ -1,4 +1,5 @@
 // Hierarchical clustering asset allocation on a given covariance.
+#![tactic(auto)]
 
 ghost use Rattle.std.specs.Prelude.{◌≡◌, ◌≤◌, length};
 ghost use Rattle.refusal.specs.declared.Outcome.TheVariants.{Done};

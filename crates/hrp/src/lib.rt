@@ -1,4 +1,5 @@
 // Hierarchical risk parity: what is given, the covariance made from it where none is, and the allocation on that.
+#![tactic(auto)]
 
 ghost use Rattle.std.specs.Prelude.{◌≡◌, length};
 ghost use Rattle.refusal.specs.Table.{first};

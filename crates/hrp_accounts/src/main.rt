@@ -1,5 +1,7 @@
 // Replays recorded accounts of HRP. Reads them from standard input and writes the answers to standard output; both are lines of hex tokens, as
 // oracle/README.md says. oracle/rust records them from the published Rust.
+#![tactic(auto)]
+
 use channel::Input;
 use linkage::Distance;
 use recorded::{Matrices, Place};

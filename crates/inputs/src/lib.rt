@@ -1,4 +1,5 @@
 // What both allocators do with the matrices that they are given.
+#![tactic(auto)]
 
 ghost use Rattle.std.specs.Prelude.{◌≡◌, length};
 ghost use Rattle.refusal.specs.Table.{first};

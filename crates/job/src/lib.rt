@@ -1,4 +1,5 @@
 // From a job text to its listing or its sheet: read, allocated, written into a lent buffer.
+#![tactic(auto)]
 
 ghost use Rattle.std.specs.Prelude.{◌≡◌, cond, ltb, length};
 ghost use Rattle.refusal.specs.declared.Refusal.TheVariants.{OverLimit, ShortBuffer};

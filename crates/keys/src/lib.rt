@@ -1,4 +1,5 @@
 // An asset's name as two numbers, which compare as its bytes do.
+#![tactic(auto)]
 
 ghost use Rattle.std.specs.Prelude.{◌≡◌, ◌<◌, ◌≤◌, length, get_or};
 ghost use Rattle.lent.specs.Grid.{tab};

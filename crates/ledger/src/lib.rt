@@ -1,4 +1,5 @@
 // What is kept of each asset name over many jobs, in a lent table of 256 positions, in byte order of the names.
+#![tactic(auto)]
 
 ghost use Rattle.std.specs.Prelude.{◌≡◌, false, ◌&&◌, [], ◌∷◌, ◌<◌, ◌≤◌, min, max, ltb, eqb, length, set, take};
 ghost use Rattle.refusal.specs.Table.{first};

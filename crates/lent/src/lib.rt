@@ -1,4 +1,5 @@
 // Lent buffers: their sizes, and the zeros that a call leaves in them.
+#![tactic(auto)]
 
 ghost use Rattle.std.specs.Prelude.{◌≡◌, ◌++◌, ◌-◌, ◌*◌, ltb, length, take, replicate};
 ghost use Rattle.arithmetic.specs.Constants.{pz};

@@ -1,4 +1,5 @@
 // The merge step: from a matrix of distances to merge rows.
+#![tactic(auto)]
 
 ghost use Rattle.std.specs.Prelude.{List, [], ◌∷◌, ◌++◌, ◌≡◌, Bool, true, cond, ◌+◌, ◌-◌, ◌*◌, ◌<◌, ◌≤◌, length, take, drop, get_or, Float};
 ghost use Rattle.std.specs.Float.{nan};

@@ -1,4 +1,5 @@
 // The listing of an answer, and the line of a refusal: bytes written into a lent buffer.
+#![tactic(auto)]
 
 ghost use Rattle.std.specs.Prelude.{◌≡◌, false, ℕ, ◌+◌, ◌*◌, ◌≤◌, ◌<◌, length, get_or};
 ghost use Rattle.refusal.specs.Table.{first};

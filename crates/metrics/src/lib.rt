@@ -1,4 +1,5 @@
 // The metrics by which HCAA shares a weight between two sides: their names, and the factor of a split.
+#![tactic(auto)]
 
 ghost use Rattle.std.specs.Prelude.{◌≡◌, length};
 ghost use Rattle.arithmetic.specs.Root.{root};

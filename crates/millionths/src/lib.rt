@@ -1,4 +1,5 @@
 // Weights in millionths that total 1,000,000: the whole parts, and one more each for the largest fractions left over.
+#![tactic(auto)]
 
 ghost use Rattle.std.specs.Prelude.{◌≡◌, ◌+◌, ◌-◌, ltb, length, get_or};
 ghost use Rattle.lent.specs.Count.{one, upto};

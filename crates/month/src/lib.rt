@@ -1,4 +1,5 @@
 // The month-end report, line by line: the listings of jobs in, positions in a lent table and the counts beside it.
+#![tactic(auto)]
 
 ghost use Rattle.std.specs.Prelude.{◌≡◌, List, ℕ, ◌≤◌, ltb};
 ghost use Rattle.refusal.specs.Table.{first};

@@ -1,4 +1,5 @@
 // The names of assets in a job text.
+#![tactic(auto)]
 
 ghost use Rattle.std.specs.Prelude.{◌≡◌};
 ghost use Rattle.fields.specs.Split.{all};

@@ -1,4 +1,5 @@
 // Doubles in ascending order, −0 before +0 and every NaN last, and the entry that stands at a part of such a list.
+#![tactic(auto)]
 
 ghost use Rattle.std.specs.Prelude.{◌≡◌, ◌+◌, ◌*◌, ◌/◌, ◌^◌, ◌<◌, ◌≤◌, false, [], ◌∷◌, ◌++◌, length, take, drop, is_nan};
 ghost use Rattle.std.specs.Float.Ieee.Exact.{HasValue};

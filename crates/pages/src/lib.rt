@@ -1,4 +1,5 @@
 // The page of a month-end report: bytes written into a lent buffer.
+#![tactic(auto)]
 
 ghost use Rattle.std.specs.Prelude.{◌≡◌, List, ℕ, ◌+◌, ◌*◌, ◌-◌, ◌≤◌, length};
 ghost use Rattle.lent.specs.Grid.{noughts};

@@ -1,4 +1,5 @@
 // The best pair of a scan of the merge step, and when a pair replaces it.
+#![tactic(auto)]
 
 ghost use Rattle.std.specs.Prelude.{◌≡◌, true, not, min, max};
 ghost use Rattle.std.specs.Float.{binary64};

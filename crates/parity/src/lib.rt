@@ -1,4 +1,5 @@
 // Hierarchical risk parity on a given covariance.
+#![tactic(auto)]
 
 ghost use Rattle.std.specs.Prelude.{length};
 ghost use Rattle.parity.specs.Parity.{ParityAnswered};

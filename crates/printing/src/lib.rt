@@ -1,4 +1,6 @@
 // What a job's text is answered by, printed: for the programs that read a text and print what a call made of it.
+#![tactic(auto)]
+
 ghost use Rattle.std.specs.Prelude.{◌≡◌, true};
 ghost use Rattle.listing.specs.declared.Listed.TheVariants.{Sheet};
 

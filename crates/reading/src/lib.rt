@@ -1,4 +1,5 @@
 // A job text read into a job, in one walk over its lines and fields, and one to its ceilings.
+#![tactic(auto)]
 
 ghost use Rattle.std.specs.Prelude.{◌≡◌, cond, true, ◌+◌, ◌≤◌, length};
 ghost use Rattle.lent.specs.Count.{one};

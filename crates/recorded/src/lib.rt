@@ -1,4 +1,6 @@
 // Recorded calls, for the programs that play them: hex tokens read and written, parts of lists, and how an answer is told. Every function is total.
+#![tactic(auto)]
+
 ghost use Rattle.std.specs.Prelude.{◌≡◌, ◌++◌, ◌+◌, ◌%◌, ◌-◌, ◌<◌, ◌≤◌, min, length, take, drop};
 ghost use Rattle.std.specs.Float.{binary64};
 ghost use Rattle.std.specs.Float.Ieee.{of_bits};

@@ -1,4 +1,5 @@
 // What a call refuses, by document 01's numbers, and how a call went.
+#![tactic(auto)]
 
 ghost use Rattle.std.specs.Prelude.{◌≡◌, ◌&&◌, ◌||◌, get_or};
 ghost use Rattle.refusal.specs.Refusal.{number_of, values_of};

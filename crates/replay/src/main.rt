@@ -1,5 +1,7 @@
 // Replays recorded calls. Reads them from standard input, makes each on buffers that hold junk, and writes the answers to standard output; both are lines
 // of hex tokens, as oracle/README.md says. oracle/rust records them from the published Rust.
+#![tactic(auto)]
+
 use channel::Input;
 use distances::Measure;
 use lent::Answer;

@@ -1,5 +1,7 @@
 // Reads the listings of jobs from standard input, as they come, and writes the month-end report's page, or the line of its refusal; standard error then has the number of
 // the line at fault. An input that cannot be read to its end has neither.
+#![tactic(auto)]
+
 use channel::Input;
 use cutting::Feed;
 use month::Progress;

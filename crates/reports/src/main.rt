@@ -1,6 +1,8 @@
 // Runs many reports. Their inputs stand in standard input, parted by a byte 0, and each is taken in pieces, of 1 to 61 bytes by the place where it stands. Of each its page is
 // written, or the line of its refusal, and after it a line `--` with the number of the line at fault, or 0, and how many entries of the three lent buffers, past the page's end,
 // are left that are not zero. oracle/reports.py makes all of it from the request's words.
+#![tactic(auto)]
+
 ghost use Rattle.std.specs.Prelude.{◌<◌, ◌≤◌};
 
 use channel::Input;

@@ -1,4 +1,5 @@
 // Sampled prices, and returns from prices.
+#![tactic(auto)]
 
 ghost use Rattle.std.specs.Prelude.{◌≡◌, false, ◌||◌, [], ◌∷◌, ◌++◌, ◌+◌, ◌*◌, ◌-◌, ◌<◌, ◌≤◌, ltb, length, set};
 ghost use Rattle.refusal.specs.Table.{first};

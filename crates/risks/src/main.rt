@@ -1,5 +1,7 @@
 // Replays recorded calls on clusters, their tail risks too, of the bisection, and of sharing down a tree. Reads them from standard input, makes each on buffers
 // that hold junk, and writes the answers to standard output; both are lines of hex tokens, as oracle/README.md says. oracle/rust records them from the published Rust.
+#![tactic(auto)]
+
 use channel::Input;
 use clusters::Risk;
 use lent::Answer;

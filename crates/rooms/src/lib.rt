@@ -1,4 +1,5 @@
 // The rooms of the buffers that an allocator is lent, and their zeros; and what a call of HRP must have.
+#![tactic(auto)]
 
 ghost use Rattle.std.specs.Prelude.{◌≡◌, length};
 ghost use Rattle.refusal.specs.Table.{first};

@@ -1,4 +1,5 @@
 // Sharing a weight out down a tree of merge rows, as HCAA does.
+#![tactic(auto)]
 
 ghost use Rattle.std.specs.Prelude.{◌≡◌, true, ◌+◌, ◌-◌, ◌*◌, ◌<◌, ◌≤◌, length, set};
 ghost use Rattle.refusal.specs.Table.{first};

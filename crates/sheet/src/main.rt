@@ -1,5 +1,7 @@
 // Reads a job text from standard input and writes its sheet, a line for each node of its tree, or the line of its refusal. A text that cannot be read to its end has
 // neither.
+#![tactic(auto)]
+
 use channel::Input;
 
 fn main() {

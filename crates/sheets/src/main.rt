@@ -1,6 +1,8 @@
 // Runs many job texts. They stand in standard input, parted by a byte 0. Of each its listing, its sheet and its sheet with names are written, or the line of its
 // refusal in the place of each, and after each a line `--`, on which stands how many bytes past it the call left that are not zero: of all of them after a refusal.
 // oracle/sheets.py makes all three from the documents' words.
+#![tactic(auto)]
+
 use channel::Input;
 use listing::Listed;
 

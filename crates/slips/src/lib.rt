@@ -1,4 +1,5 @@
 // The lines of listings, read again: a holding, a leaf order, or a refusal.
+#![tactic(auto)]
 
 ghost use Rattle.std.specs.Prelude.{◌≡◌, length, drop};
 ghost use Rattle.fields.specs.Split.{tabulator, split, all};

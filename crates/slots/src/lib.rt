@@ -1,4 +1,5 @@
 // The live slots of the merge step, kept packed in slot order.
+#![tactic(auto)]
 
 ghost use Rattle.std.specs.Prelude.{◌≡◌, min, length, take};
 ghost use Rattle.lent.specs.Grid.{over};

@@ -1,4 +1,5 @@
 // From returns to covariances, correlations and expected returns. A matrix is a slice of rows times columns doubles.
+#![tactic(auto)]
 
 ghost use Rattle.std.specs.Prelude.{◌≡◌, ◌+◌, ◌*◌, ◌<◌, ◌≤◌, length, set};
 ghost use Rattle.arithmetic.specs.Root.{root};

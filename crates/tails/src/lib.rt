@@ -1,4 +1,5 @@
 // The two tail-risk measures of a list of assets, weighed by inverse variance: document 02, request 1.
+#![tactic(auto)]
 
 ghost use Rattle.std.specs.Prelude.{◌≡◌, true, cond, ◌++◌, ◌+◌, ◌*◌, ◌<◌, ◌≤◌, length, take};
 ghost use Rattle.std.specs.Float.{binary64};

@@ -1,4 +1,5 @@
 // Bytes of a text, and names.
+#![tactic(auto)]
 
 ghost use Rattle.std.specs.Prelude.{◌≡◌};
 ghost use Rattle.text.specs.Bytes.{same, lower, is_word};

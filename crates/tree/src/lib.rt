@@ -1,4 +1,5 @@
 // Merge rows as a tree, its leaf order, and a matrix put in a leaf order. Rows are a flat slice: row k is the entries 2k and 2k + 1.
+#![tactic(auto)]
 
 ghost use Rattle.std.specs.Prelude.{◌≡◌, [], ◌∷◌, ◌+◌, ◌-◌, ◌*◌, ◌≤◌, ◌<◌, ltb, eqb, length, set};
 ghost use Rattle.lent.specs.Count.{count};

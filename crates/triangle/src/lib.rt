@@ -1,4 +1,5 @@
 // Where the distance between two assets stands in the merge step's working array: every cell, or those above the diagonal alone, row by row.
+#![tactic(auto)]
 
 ghost use Rattle.std.specs.Prelude.{◌&&◌, cond, ◌≡◌, ◌*◌, ◌<◌, ◌≤◌, eqb, leb, length};
 ghost use Rattle.std.specs.Float.{binary64};

@@ -1,5 +1,7 @@
 // Reads lines of three doubles x y z, each 16 lower-case hex digits, parted by a space, and writes for each line sqrt(x), max(x, y), min(x, y) and
 // clamp(x, y, z) in the same form. oracle/vectors.py makes the lines that it is run on, and the answers.
+#![tactic(auto)]
+
 use channel::Input;
 use recorded::Place;
 

@@ -1,4 +1,6 @@
 // Reads a job text from standard input and writes its listing, or the line of its refusal. A text that cannot be read to its end has neither.
+#![tactic(auto)]
+
 use channel::Input;
 
 fn main() {

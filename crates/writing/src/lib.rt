@@ -1,4 +1,5 @@
 // Bytes and numerals written into a lent buffer, where they fit.
+#![tactic(auto)]
 
 ghost use Rattle.std.specs.Prelude.{◌≡◌, [], ◌∷◌, ◌+◌, ◌≤◌, ◌<◌, ltb, length};
 ghost use Rattle.writing.specs.Writing.{digit_byte, digits, decimal, hex_of, Put};
