@@ -1,0 +1,21 @@
+-- `capi::rovignesc_listing` meets its contract. Assumes nothing.
+use native.Mathlib.Omega.{arith}
+use Rattle.capi.proofs.Calls.{listing_none, listing_made}
+use Rattle.capi.proofs.rovignesc_listing.Goals as goal
+
+pub shape_of-listing-then-bytes-lt1 : goal.shape_of-listing-then-bytes-lt1
+shape_of-listing-then-bytes-lt1 c = c.clear_bytes.auto.out
+
+pub shape_of-bytes-then-bytes-lt1 : goal.shape_of-bytes-then-bytes-lt1
+shape_of-bytes-then-bytes-lt1 c = c.clear_numbers.auto.out
+
+pub returns-then-bytes-lt1 : goal.returns-then-bytes-lt1
+returns-then-bytes-lt1 c =
+    listing_none _ _ _ _ c.clear_numbers.ensures c.if-bytes-lt1.true _ c.judge_bytes.ensures _ c.number.ensures _ c.clear_bytes.ensures
+
+pub shape_of-listing : goal.shape_of-listing
+shape_of-listing c = c.text_to_listing-listed.auto.out
+
+pub returns : goal.returns
+returns c =
+    listing_made _ _ _ _ c.clear_numbers.ensures (omega (arith, c.if-bytes-lt1.false)) _ _ c.text_to_listing-listed.ensures _ c.bytes.ensures _ c.number_listed.ensures

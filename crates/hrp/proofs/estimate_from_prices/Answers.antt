@@ -1,0 +1,30 @@
+-- `hrp::estimate_from_prices` meets its contract. Assumes nothing.
+use mathlib.Core.Path.{sym}
+use native.Mathlib.Omega.{arith}
+use lib.Seq.{length-take-le}
+use Rattle.hrp.proofs.Estimates.{returns_fit, returns_pass, sampled_refused, sampled_done}
+use Rattle.hrp.proofs.estimate_from_prices.Goals as goal
+
+pub overflow_mul-cells : goal.overflow_mul-cells
+overflow_mul-cells c = omega (arith, returns_fit _ _ _ _ c.requires.n_value _ c.sampled_returns.ensures.value _ _ _ c.in-Matrix.is c.sampled_returns.ensures.out_after)
+
+pub slice_bounds-made-end : goal.slice_bounds-made-end
+slice_bounds-made-end c = omega (arith, returns_fit _ _ _ _ c.requires.n_value _ c.sampled_returns.ensures.value _ _ _ c.in-Matrix.is c.sampled_returns.ensures.out_after, c.sampled_returns.auto.out)
+
+pub slice_bounds-estimate-end : goal.slice_bounds-estimate-end
+slice_bounds-estimate-end c = sym (length-take-le _ _ (slice_bounds-made-end c))
+
+pub estimate-requires : goal.estimate-requires
+estimate-requires c = record {
+      n_value = returns_pass _ _ _ _ c.requires.n_value _ c.sampled_returns.ensures.value _ _ _ c.in-Matrix.is c.sampled_returns.ensures.out_after;
+      out_len = c.requires.out_len;
+    }
+
+pub shape_of-out : goal.shape_of-out
+shape_of-out c = c.estimate.auto.out
+
+pub returns-in-Matrix : goal.returns-in-Matrix
+returns-in-Matrix c = sampled_done _ _ _ _ c.requires.n_value _ c.sampled_returns.ensures.value _ _ _ c.in-Matrix.is c.sampled_returns.ensures.out_after _ _ _ c.estimate.ensures
+
+pub returns-in-Refused : goal.returns-in-Refused
+returns-in-Refused c = sampled_refused _ _ _ _ c.requires.n_value _ c.sampled_returns.ensures.value _ _ _ c.in-Refused.is

@@ -1,0 +1,6 @@
+-- `lent::clear` meets its contract. Assumes nothing.
+use native.Mathlib.Numerals.{unary_clauses}
+use Rattle.lent.proofs.clear.Goals as goal
+
+pub returns : goal.returns
+returns c = simp unary_clauses at c.clear_from.ensures

@@ -1,0 +1,14 @@
+-- `reading::judge` meets its contract. Assumes nothing.
+use mathlib.Core.Path.{refl}
+use Rattle.refusal.proofs.Tables.{said_line, said_last}
+use Rattle.reading.specs.Inner.{text_size_lines}
+use Rattle.reading.proofs.judge.Goals as goal
+
+pub returns : goal.returns
+unfolding text_size_lines
+returns c =
+    said_line _ _ _ _ _ _ refl
+    (said_line _ _ _ _ _ _ refl
+    (said_line _ _ _ _ _ _ refl (said_last _ _ _ _ refl c.refuse-o.ensures) c.refuse-o-2.ensures)
+    c.refuse-o-3.ensures)
+    c.refuse.ensures

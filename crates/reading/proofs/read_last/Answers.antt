@@ -1,0 +1,44 @@
+-- `reading::read_last` meets its contract. `Lasting` says where the walk over the pieces stands. Assumes nothing.
+use native.Mathlib.Omega.{arith}
+use Rattle.fields.proofs.Pieces.{pieces_le}
+use Rattle.reading.proofs.Ceilings.{lasting_start, last_within, lasting_bad, lasting_step, lasting_end}
+use Rattle.reading.proofs.read_last.Goals as goal
+
+pub loop-i-init : goal.loop-i-init
+loop-i-init c = lasting_start _ _ _ _
+
+pub slice_bounds-last_piece-count : goal.slice_bounds-last_piece-count
+slice_bounds-last_piece-count c = omega (arith, last_within c.requires.n_in_bounds c.loop-i.invariant c.loop-i-test.true _ c.end_of-e.ensures)
+
+pub slice_bounds-last_piece-start : goal.slice_bounds-last_piece-start
+slice_bounds-last_piece-start c = omega (arith, last_within c.requires.n_in_bounds c.loop-i.invariant c.loop-i-test.true _ c.end_of-e.ensures)
+
+pub slice_bounds-last_piece-end : goal.slice_bounds-last_piece-end
+slice_bounds-last_piece-end c = omega (arith, last_within c.requires.n_in_bounds c.loop-i.invariant c.loop-i-test.true _ c.end_of-e.ensures)
+
+pub shape_of-ceilings-in_default : goal.shape_of-ceilings-in_default
+shape_of-ceilings-in_default c = c.loop-i.invariant.sized
+
+pub returns-in_default : goal.returns-in_default
+returns-in_default c = lasting_bad c.requires.n_in_bounds c.loop-i.invariant c.loop-i-test.true _ c.end_of-e.ensures _ c.last_piece.ensures _ c.read_ceiling-read.ensures _ c.in_default.is
+
+pub bounds-ceilings-i : goal.bounds-ceilings-i
+bounds-ceilings-i c = c.if-i-ceilings.true
+
+pub overflow_add-at : goal.overflow_add-at
+overflow_add-at c = omega (arith, last_within c.requires.n_in_bounds c.loop-i.invariant c.loop-i-test.true _ c.end_of-e.ensures, c.requires.s_len_bound)
+
+pub overflow_add-i : goal.overflow_add-i
+overflow_add-i c = omega (arith, c.loop-i-test.true, c.requires.s_len_bound, c.requires.n_in_bounds, pieces_le c.args.d c.args.s.now)
+
+pub loop-i-smaller : goal.loop-i-smaller
+loop-i-smaller c = omega (arith, c.loop-i-test.true)
+
+pub loop-i-preserved : goal.loop-i-preserved
+loop-i-preserved c = lasting_step c.requires.n_in_bounds c.loop-i.invariant c.loop-i-test.true _ c.end_of-e.ensures _ c.last_piece.ensures _ c.read_ceiling-read.ensures _ c.in-Of.is _ (came c).0 (came c).1
+
+pub shape_of-ceilings : goal.shape_of-ceilings
+shape_of-ceilings c = c.loop-i.invariant.sized
+
+pub returns : goal.returns
+returns c = lasting_end c.requires.n_in_bounds c.loop-i.invariant c.requires.ceilings_len_bound c.loop-i-test.false

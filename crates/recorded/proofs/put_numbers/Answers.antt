@@ -1,0 +1,10 @@
+-- `recorded::put_numbers` meets its contract. Assumes nothing.
+use borrow.Author.Rules.{rules}
+use Rattle.recorded.proofs.Laws.{onward_none, onward_then}
+use Rattle.recorded.proofs.put_numbers.Goals as goal
+
+pub loop-i-init : goal.loop-i-init
+loop-i-init c = onward_none _ _
+
+pub loop-i-preserved : goal.loop-i-preserved
+loop-i-preserved c = search (onward_then, rules)

@@ -1,0 +1,11 @@
+-- `recorded::tell` meets its contract. Assumes nothing.
+use mathlib.Core.Path.{◌∙◌}
+use borrow.Author.Rules.{rules}
+use Rattle.recorded.proofs.Laws.{onward_then}
+use Rattle.recorded.proofs.tell.Goals as goal
+
+pub shape_of-told : goal.shape_of-told
+shape_of-told c = c.put_last.auto.told ∙ c.put_doubles-listed.auto.told ∙ c.put_sizes-sized.auto.told
+
+pub returns : goal.returns
+returns c = search (onward_then, rules)

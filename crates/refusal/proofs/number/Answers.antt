@@ -1,0 +1,58 @@
+-- `refusal::number` meets its contract. Assumes nothing.
+use mathlib.Core.Path.{sym, ap}
+use Rattle.refusal.specs.Refusal.{number_of}
+use Rattle.refusal.proofs.number.Goals as goal
+
+pub returns-in-NoData : goal.returns-in-NoData
+returns-in-NoData c = ap number_of (sym c.in-NoData.is)
+
+pub returns-in-UnknownAllocationMetric : goal.returns-in-UnknownAllocationMetric
+returns-in-UnknownAllocationMetric c = ap number_of (sym c.in-UnknownAllocationMetric.is)
+
+pub returns-in-DimensionMismatch : goal.returns-in-DimensionMismatch
+returns-in-DimensionMismatch c = ap number_of (sym c.in-DimensionMismatch.is)
+
+pub returns-in-MissingExpectedReturnsForSharpe : goal.returns-in-MissingExpectedReturnsForSharpe
+returns-in-MissingExpectedReturnsForSharpe c = ap number_of (sym c.in-MissingExpectedReturnsForSharpe.is)
+
+pub returns-in-UnknownReturns : goal.returns-in-UnknownReturns
+returns-in-UnknownReturns c = ap number_of (sym c.in-UnknownReturns.is)
+
+pub returns-in-InvalidNumClusters : goal.returns-in-InvalidNumClusters
+returns-in-InvalidNumClusters c = ap number_of (sym c.in-InvalidNumClusters.is)
+
+pub returns-in-UnknownDistance : goal.returns-in-UnknownDistance
+returns-in-UnknownDistance c = ap number_of (sym c.in-UnknownDistance.is)
+
+pub returns-in-UnknownLinkage : goal.returns-in-UnknownLinkage
+returns-in-UnknownLinkage c = ap number_of (sym c.in-UnknownLinkage.is)
+
+pub returns-in-OverLimit : goal.returns-in-OverLimit
+returns-in-OverLimit c = ap number_of (sym c.in-OverLimit.is)
+
+pub returns-in-SliceLength : goal.returns-in-SliceLength
+returns-in-SliceLength c = ap number_of (sym c.in-SliceLength.is)
+
+pub returns-in-ShortBuffer : goal.returns-in-ShortBuffer
+returns-in-ShortBuffer c = ap number_of (sym c.in-ShortBuffer.is)
+
+pub returns-in-WeightOutOfRange : goal.returns-in-WeightOutOfRange
+returns-in-WeightOutOfRange c = ap number_of (sym c.in-WeightOutOfRange.is)
+
+pub returns-in-NoTree : goal.returns-in-NoTree
+returns-in-NoTree c = ap number_of (sym c.in-NoTree.is)
+
+pub returns-in-MalformedText : goal.returns-in-MalformedText
+returns-in-MalformedText c = ap number_of (sym c.in-MalformedText.is)
+
+pub returns-in-MissingReturnsForTailRisk : goal.returns-in-MissingReturnsForTailRisk
+returns-in-MissingReturnsForTailRisk c = ap number_of (sym c.in-MissingReturnsForTailRisk.is)
+
+pub returns-in-ConfidenceOutOfRange : goal.returns-in-ConfidenceOutOfRange
+returns-in-ConfidenceOutOfRange c = ap number_of (sym c.in-ConfidenceOutOfRange.is)
+
+pub returns-in-TotalOutOfReach : goal.returns-in-TotalOutOfReach
+returns-in-TotalOutOfReach c = ap number_of (sym c.in-TotalOutOfReach.is)
+
+pub returns-in-CeilingsTooLow : goal.returns-in-CeilingsTooLow
+returns-in-CeilingsTooLow c = ap number_of (sym c.in-CeilingsTooLow.is)

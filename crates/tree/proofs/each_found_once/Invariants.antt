@@ -1,0 +1,10 @@
+-- What the loops of `tree::each_found_once` keep true, and what falls. Assumes nothing.
+use mathlib.Core.Path.{◌≡◌}
+use Rattle.tree.specs.Rows.{once}
+use Rattle.tree.proofs.each_found_once.Given as goal
+
+abbrev pub invariant-loop-k : goal.invariant-loop-k
+invariant-loop-k l = once l.list l.m ≡ once l.list l.k
+
+abbrev pub decreases-loop-k : goal.decreases-loop-k
+decreases-loop-k l = l.k
