@@ -1,8 +1,5 @@
 -- What a caller has of a text that was read. Assumes nothing.
-use Prim.Native.Nat.{ℕ, ◌≤◌}
-use mathlib.Core.Path.{◌≡◌, subst}
-use mathlib.Core.List.{List}
-use lib.ListN.{length, take}
+use Rattle.std.proofs.Common.{◌≡◌, ℕ, ◌≤◌, List, length, take, subst}
 use Rattle.channel.specs.Channel.{IsRead}
 use Rattle.channel.specs.declared.Input.{Input}
 use Rattle.channel.specs.declared.Input.TheVariants.{Text}

@@ -5,6 +5,8 @@
 ghost use Rattle.std.specs.Prelude.{◌≡◌, true, length};
 ghost use Rattle.channel.specs.Channel.{IsRead, IsWhole};
 
+use std::io::{Read, Write};
+
 // How many bytes were read, or that a text cannot be had whole, which standard error was told.
 #[derive(Clone, Copy)]
 pub enum Input {
@@ -12,28 +14,34 @@ pub enum Input {
     Failed,
 }
 
+// A line for standard error. Where that cannot be written either, nobody is told.
+pub fn warn(rt: HostRuntime, line: &[u8]) {
+    let _ = rt.stderr().write_all(line);
+}
+
 // One read of standard input: the bytes that came, none at its end. A buffer of no bytes reads none.
-pub fn read_piece(piece: &mut [u8]) -> Input
+pub fn read_piece(rt: HostRuntime, piece: &mut [u8]) -> Input
     ensures { IsRead result piece.new }
 {
-    let got = libc::read(0, piece);
-    if got < 0 {
-        io::write_all(
-            2,
-            b"standard input could not be read to its end: nothing is printed\n",
-        );
-        return Input::Failed;
+    match rt.stdin().read(piece) {
+        Ok(n) => Input::Text(n),
+        Err(_) => {
+            warn(
+                rt,
+                b"standard input could not be read to its end: nothing is printed\n",
+            );
+            Input::Failed
+        }
     }
-    Input::Text(io::count(got, piece))
 }
 
 // Reads standard input until it ends or the buffer is full.
-pub fn read(text: &mut [u8]) -> Input
+pub fn read(rt: HostRuntime, text: &mut [u8]) -> Input
     ensures { IsRead result text.new }
 {
     let mut done = 0;
     while done < text.len() {
-        let came = read_piece(&mut text[done..]);
+        let came = read_piece(rt, &mut text[done..]);
         let Input::Text(more) = came else {
             return Input::Failed;
         };
@@ -46,34 +54,34 @@ pub fn read(text: &mut [u8]) -> Input
 }
 
 // The same, for a text whose end has to be seen: one that fills the buffer may go on.
-pub fn read_all(text: &mut [u8]) -> Input
+pub fn read_all(rt: HostRuntime, text: &mut [u8]) -> Input
     ensures { IsWhole result text.new }
 {
-    let input = read(text);
+    let input = read(rt, text);
     let Input::Text(n) = input else {
         return Input::Failed;
     };
     if n < text.len() {
         return Input::Text(n);
     }
-    io::write_all(
-        2,
+    warn(
+        rt,
         b"standard input is longer than the program takes: nothing is printed\n",
     );
     Input::Failed
 }
 
 // Writes to standard output. Answers whether all was taken; nothing to write always is.
-pub fn write(told: &[u8]) -> bool
+pub fn write(rt: HostRuntime, told: &[u8]) -> bool
     ensures { length told.now ≡ 0 → result ≡ true }
 {
     if told.len() == 0 {
         return true;
     }
-    let taken = io::write_all(1, told);
+    let taken = rt.stdout().write_all(told).is_ok();
     if !taken {
-        io::write_all(
-            2,
+        warn(
+            rt,
             b"standard output could not be written: what was printed is not whole\n",
         );
     }
