@@ -8,28 +8,28 @@ use listing::Listed;
 use refusal::Refusal;
 
 // The first k bytes, as many as there are. Answers whether all was taken.
-fn write_front(out: &[u8], k: usize) -> bool
+fn write_front(rt: HostRuntime, out: &[u8], k: usize) -> bool
     ensures { k ≡ 0 → result ≡ true }
 {
     if out.len() < k {
-        return channel::write(out);
+        return channel::write(rt, out);
     }
-    channel::write(&out[..k])
+    channel::write(rt, &out[..k])
 }
 
 // The line of a refusal.
-fn write_refusal(given: Refusal) -> bool {
+fn write_refusal(rt: HostRuntime, given: Refusal) -> bool {
     let mut line = [0u8; 16];
     let written = listing::refusal_line(refusal::number(given), &mut line);
-    write_front(&line, listing::bytes(written))
+    write_front(rt, &line, listing::bytes(written))
 }
 
 // To standard output, what a call has written to the front of out, or the line of its refusal. Answers whether all was taken; nothing to write always is.
-pub fn write_listed(listed: Listed, out: &[u8]) -> bool
+pub fn write_listed(rt: HostRuntime, listed: Listed, out: &[u8]) -> bool
     ensures { listed ≡ Sheet 0 → result ≡ true }
 {
     match listed {
-        Listed::Sheet(k) => write_front(out, k),
-        Listed::Refused(given) => write_refusal(given),
+        Listed::Sheet(k) => write_front(rt, out, k),
+        Listed::Refused(given) => write_refusal(rt, given),
     }
 }

@@ -10,23 +10,23 @@ use cutting::Feed;
 use listing::Listed;
 
 // A blank and a number.
-fn write_number(n: usize) -> bool {
+fn write_number(rt: HostRuntime, n: usize) -> bool {
     let mut digits = [0u8; 20];
     let d = io::decimal(n as u64, &mut digits);
-    channel::write(b" ") && channel::write(&digits[..d])
+    channel::write(rt, b" ") && channel::write(rt, &digits[..d])
 }
 
 // What was made of an input. Answers whether all was taken.
-fn write(listed: Listed, page: &[u8], fault: usize) -> bool {
-    printing::write_listed(listed, page) && channel::write(b"--") && write_number(fault)
+fn write(rt: HostRuntime, listed: Listed, page: &[u8], fault: usize) -> bool {
+    printing::write_listed(rt, listed, page) && channel::write(rt, b"--") && write_number(rt, fault)
 }
 
 // How much is left in the buffers, past the page's end.
-fn write_left(table: &[usize], held: &[u8], rest: &[u8]) -> bool {
-    write_number(recorded::unclean_numbers(table))
-        && write_number(recorded::unclean_bytes(held))
-        && write_number(recorded::unclean_bytes(rest))
-        && channel::write(b"\n")
+fn write_left(rt: HostRuntime, table: &[usize], held: &[u8], rest: &[u8]) -> bool {
+    write_number(rt, recorded::unclean_numbers(table))
+        && write_number(rt, recorded::unclean_bytes(held))
+        && write_number(rt, recorded::unclean_bytes(rest))
+        && channel::write(rt, b"\n")
 }
 
 // An input in pieces of so many bytes.
@@ -45,7 +45,7 @@ fn take(table: &mut [usize], held: &mut [u8], text: &[u8], step: usize) -> Feed
 }
 
 // One input, in buffers full of junk, of just the length that they need.
-fn run(text: &[u8], step: usize) -> bool
+fn run(rt: HostRuntime, text: &[u8], step: usize) -> bool
     requires step_nonzero { 0 < step }
     requires step_bound { step ≤ 61 }
 {
@@ -56,15 +56,15 @@ fn run(text: &[u8], step: usize) -> bool
     let progress = cutting::end_feed(&mut held, feed);
     let listed = pages::end_report(&mut table, progress, &mut page);
     let rest = recorded::byte_part(&page, listing::bytes(listed), page.len());
-    write(listed, &page, pages::fault_line(progress)) && write_left(&table, &held, rest)
+    write(rt, listed, &page, pages::fault_line(progress)) && write_left(rt, &table, &held, rest)
 }
 
 // Every input, as long as what is written is taken.
-fn run_all(text: &[u8]) {
+fn run_all(rt: HostRuntime, text: &[u8]) {
     let mut at = 0;
     loop {
         let e = fields::end_of(text, 0, at);
-        if !run(&text[at..e], 1 + at % 61) {
+        if !run(rt, &text[at..e], 1 + at % 61) {
             return;
         }
         if e == text.len() {
@@ -74,11 +74,11 @@ fn run_all(text: &[u8]) {
     }
 }
 
-fn main() {
+fn main(rt: HostRuntime) {
     let mut text = recorded::space();
-    let input = channel::read_all(&mut text);
+    let input = channel::read_all(rt, &mut text);
     let Input::Text(n) = input else {
         return;
     };
-    run_all(recorded::byte_part(&text, 0, n));
+    run_all(rt, recorded::byte_part(&text, 0, n));
 }

@@ -353,13 +353,13 @@ fn replay(text: &[u8], told: &mut [u8]) -> usize {
     end
 }
 
-fn main() {
+fn main(rt: HostRuntime) {
     let mut text = recorded::space();
-    let input = channel::read_all(&mut text);
+    let input = channel::read_all(rt, &mut text);
     let Input::Text(n) = input else {
         return;
     };
     let mut told = recorded::space();
     let end = replay(recorded::byte_part(&text, 0, n), &mut told);
-    channel::write(recorded::byte_part(&told, 0, end));
+    channel::write(rt, recorded::byte_part(&told, 0, end));
 }

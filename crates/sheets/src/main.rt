@@ -7,46 +7,46 @@ use channel::Input;
 use listing::Listed;
 
 // What a call made of a text, and the line after it. Answers whether all was taken.
-fn write(listed: Listed, out: &[u8]) -> bool {
+fn write(rt: HostRuntime, listed: Listed, out: &[u8]) -> bool {
     let mut digits = [0u8; 20];
     let rest = recorded::byte_part(out, listing::bytes(listed), out.len());
     let d = io::decimal(recorded::unclean_bytes(rest) as u64, &mut digits);
-    printing::write_listed(listed, out)
-        && channel::write(b"-- ")
-        && channel::write(&digits[..d])
-        && channel::write(b"\n")
+    printing::write_listed(rt, listed, out)
+        && channel::write(rt, b"-- ")
+        && channel::write(rt, &digits[..d])
+        && channel::write(rt, b"\n")
 }
 
 // Each call has a buffer full of junk, of just the length that it needs.
-fn run_listing(text: &[u8]) -> bool {
+fn run_listing(rt: HostRuntime, text: &[u8]) -> bool {
     let mut out = [7u8; 8192];
     let listed = job::text_to_listing(text, &mut out);
-    write(listed, &out)
+    write(rt, listed, &out)
 }
 
-fn run_sheet(text: &[u8]) -> bool {
+fn run_sheet(rt: HostRuntime, text: &[u8]) -> bool {
     let mut out = [7u8; 8192];
     let listed = job::text_to_sheet(text, false, &mut out);
-    write(listed, &out)
+    write(rt, listed, &out)
 }
 
-fn run_named_sheet(text: &[u8]) -> bool {
+fn run_named_sheet(rt: HostRuntime, text: &[u8]) -> bool {
     let mut out = [7u8; 32768];
     let listed = job::text_to_sheet(text, true, &mut out);
-    write(listed, &out)
+    write(rt, listed, &out)
 }
 
 // One text, in its three forms.
-fn run(text: &[u8]) -> bool {
-    run_listing(text) && run_sheet(text) && run_named_sheet(text)
+fn run(rt: HostRuntime, text: &[u8]) -> bool {
+    run_listing(rt, text) && run_sheet(rt, text) && run_named_sheet(rt, text)
 }
 
 // Every text, as long as what is written is taken.
-fn run_all(text: &[u8]) {
+fn run_all(rt: HostRuntime, text: &[u8]) {
     let mut at = 0;
     loop {
         let e = fields::end_of(text, 0, at);
-        if !run(&text[at..e]) {
+        if !run(rt, &text[at..e]) {
             return;
         }
         if e == text.len() {
@@ -56,11 +56,11 @@ fn run_all(text: &[u8]) {
     }
 }
 
-fn main() {
+fn main(rt: HostRuntime) {
     let mut text = recorded::space();
-    let input = channel::read_all(&mut text);
+    let input = channel::read_all(rt, &mut text);
     let Input::Text(n) = input else {
         return;
     };
-    run_all(recorded::byte_part(&text, 0, n));
+    run_all(rt, recorded::byte_part(&text, 0, n));
 }

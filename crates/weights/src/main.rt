@@ -3,14 +3,14 @@
 
 use channel::Input;
 
-fn main() {
+fn main(rt: HostRuntime) {
     // One byte more than a text may have tells 65,536 from more.
     let mut text = [0u8; 65537];
-    let input = channel::read(&mut text);
+    let input = channel::read(rt, &mut text);
     let Input::Text(n) = input else {
         return;
     };
     let mut out = [0u8; 8192];
     let listed = job::text_to_listing(&text[..n], &mut out);
-    printing::write_listed(listed, &out);
+    printing::write_listed(rt, listed, &out);
 }
