@@ -42,14 +42,14 @@ struct Buffers {
 }
 
 // How an account went, and the buffers as it left them.
-#[derive(Clone, Copy)]
+#[derive(Drop)]
 struct Ran {
     outcome: Outcome,
     left: Buffers,
 }
 
 // Where reading and writing stand, and the buffers as the accounts so far left them.
-#[derive(Clone, Copy)]
+#[derive(Drop)]
 struct Step {
     at: usize,
     end: usize,
@@ -132,39 +132,32 @@ fn lent_rooms(text: &[u8], at: usize) -> Rooms {
 // ---- answers
 
 // How many entries of what was lent are not zero past the answer for n assets, of scratch all.
-fn unclean_ids(n: usize, room: Rooms, b: Buffers) -> usize {
-    let rows = b.rows;
-    let order = b.order;
+fn unclean_ids(n: usize, room: Rooms, b: &Buffers) -> usize {
     recorded::plus(
-        recorded::unclean_numbers_past(recorded::front(&rows, room.rows), recorded::ids_of(n)),
-        recorded::unclean_numbers_past(recorded::front(&order, room.order), n),
+        recorded::unclean_numbers_past(recorded::front(&b.rows, room.rows), recorded::ids_of(n)),
+        recorded::unclean_numbers_past(recorded::front(&b.order, room.order), n),
     )
 }
 
-fn unclean_cells(n: usize, room: Rooms, b: Buffers) -> usize {
-    let weights = b.weights;
-    let scratch = b.scratch;
+fn unclean_cells(n: usize, room: Rooms, b: &Buffers) -> usize {
     recorded::plus(
-        recorded::unclean_past(recorded::part(&weights, 0, room.weights), n),
-        recorded::unclean(recorded::part(&scratch, 0, room.scratch)),
+        recorded::unclean_past(recorded::part(&b.weights, 0, room.weights), n),
+        recorded::unclean(recorded::part(&b.scratch, 0, room.scratch)),
     )
 }
 
-fn put_ids(told: &mut [u8], end: usize, n: usize, b: Buffers) -> usize {
-    let rows = b.rows;
-    let order = b.order;
-    let merged = recorded::put_front_numbers(told, end, &rows, recorded::ids_of(n));
-    recorded::put_front_numbers(told, merged, &order, n)
+fn put_ids(told: &mut [u8], end: usize, n: usize, b: &Buffers) -> usize {
+    let merged = recorded::put_front_numbers(told, end, &b.rows, recorded::ids_of(n));
+    recorded::put_front_numbers(told, merged, &b.order, n)
 }
 
-fn put_weights(told: &mut [u8], end: usize, n: usize, b: Buffers) -> usize {
-    let weights = b.weights;
-    recorded::put_front(told, end, &weights, n)
+fn put_weights(told: &mut [u8], end: usize, n: usize, b: &Buffers) -> usize {
+    recorded::put_front(told, end, &b.weights, n)
 }
 
-fn tell(ran: Ran, assets: usize, room: Rooms, told: &mut [u8], end: usize) -> usize {
+fn tell(ran: &Ran, assets: usize, room: Rooms, told: &mut [u8], end: usize) -> usize {
     let outcome = ran.outcome;
-    let b = ran.left;
+    let b = &ran.left;
     let n = recorded::answered(outcome, assets);
     let unclean = recorded::plus(unclean_ids(n, room, b), unclean_cells(n, room, b));
     let begun = recorded::put_outcome(told, end, outcome);
@@ -262,7 +255,7 @@ fn account(text: &[u8], from: Place, b: Buffers, told: &mut [u8]) -> Step {
     let e = recorded::expected_to(text, m.at, &mut cells);
     let room = lent_rooms(text, e.at);
     let ran = in_buffers(b, room, h, m, e, &names, &cells);
-    let end = tell(ran, h.assets, room, told, from.end);
+    let end = tell(&ran, h.assets, room, told, from.end);
     let left = ran.left;
     Step {
         at: room.at,
@@ -307,13 +300,13 @@ fn junk() -> Buffers {
     }
 }
 
-fn main() {
+fn main(rt: HostRuntime) {
     let mut text = recorded::space();
-    let input = channel::read_all(&mut text);
+    let input = channel::read_all(rt, &mut text);
     let Input::Text(n) = input else {
         return;
     };
     let mut told = recorded::space();
     let end = replay(recorded::byte_part(&text, 0, n), junk(), &mut told);
-    channel::write(recorded::byte_part(&told, 0, end));
+    channel::write(rt, recorded::byte_part(&told, 0, end));
 }
