@@ -2,7 +2,7 @@
 -- `root x` is a double (root_fits), and no double is as near to that root (`nearest`). Assumes nothing.
 use Rattle.std.proofs.Common.{◌≡◌, ℕ, zero, suc, ◌+◌, ◌-◌, ◌*◌, ◌/◌, ◌%◌, ◌^◌, ◌<◌, ◌≤◌, true, false, T, pos, sym, refl, ap, ◌∙◌, subst, lt_of_lt_of_le, add-zero, mod-lt, zero-lt-suc, mul_assoc, mul-pos, mul_right_comm, arith, lt→ltb, pow_pos}
 use lib.Count.{count_leading_zeros, leading_top}
-use lib.Ieee.{Float, nan, inf, fin, binary64, up, odd, fits, to_bits}
+use lib.Ieee.{Float, nan, inf, fin, binary64, odd, fits, to_bits}
 use lib.Ieee.Bits.{of_bits-to_bits, of_bits-fits}
 use lib.Ieee.Fits.{nan-fits, inf-fits}
 use lib.Ieee.Exact.{odd_sign}

@@ -1,5 +1,5 @@
 -- Whole numbers as doubles: products and sums of exact values round once, so that `count`, which joins two halves, is the nearest double. Assumes nothing.
-use Rattle.std.proofs.Common.{◌≡◌, ℕ, ◌+◌, ◌*◌, ◌/◌, ◌%◌, ◌^◌, ◌<◌, ◌≤◌, true, false, T, pos, sym, refl, ap, ◌∙◌, subst, lt_of_lt_of_le, le_of_lt, zero-lt-suc, mul_assoc, div-add-mod', mul-one, arith, lit≤, le→leb, pow_mono, pow-add, shl_lt}
+use Rattle.std.proofs.Common.{◌≡◌, ℕ, ◌+◌, ◌*◌, ◌/◌, ◌%◌, ◌^◌, ◌<◌, ◌≤◌, false, T, pos, sym, refl, ap, ◌∙◌, subst, lt_of_lt_of_le, le_of_lt, zero-lt-suc, mul_assoc, div-add-mod', mul-one, arith, lit≤, le→leb, pow_mono, pow-add, shl_lt}
 use lib.Ieee.{Float, binary64, add, mul, of_int, in_float, of_bits}
 use lib.Ieee.Exact.{HasValue, round_exact}
 use lib.Ieee.Back.{round_whole}

@@ -1,11 +1,11 @@
 -- A loop that copies one list over the front of another, and what callers use of what it leaves. Assumes nothing.
-use Prim.Native.Nat.{ℕ, zero, suc, ◌+◌, ◌<◌, ◌≤◌}
-use mathlib.Core.Path.{◌≡◌, refl, sym, ap, subst, ◌∙◌}
+use Prim.Native.Nat.{ℕ, ◌+◌, ◌<◌, ◌≤◌}
+use mathlib.Core.Path.{◌≡◌, refl, sym, ap, ◌∙◌}
 use mathlib.Core.List.{List, [], ◌∷◌, ◌++◌}
 use native.Mathlib.Numerals.{add-one}
 use native.Mathlib.Omega.{arith}
 use lib.ListN.{length, get_or, set, take, drop, length-set}
-use lib.Seq.{take_all, take-suc, take-length, take_at, length-take-le}
+use lib.Seq.{take_all, take-suc, take_at, length-take-le}
 use Rattle.lent.specs.Grid.{over}
 use Rattle.lent.proofs.Laws.{over_push, over_all_lem}
 

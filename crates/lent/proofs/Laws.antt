@@ -8,7 +8,7 @@ use mathlib.Core.Logic.{◌⊎◌, inl, inr, ⊎_elim}
 use native.Mathlib.Nat.{not-suc-le-zero, le_of_suc-le-suc, eq-or-lt_of_le, mul-le-mul, mul-le-mul_right, mul-add-div_right, div-eq_of_lt, div-lt_iff_lt-mul, div-add-mod', mod-lt, mul-zero, add-zero, suc-mul, zero-mul}
 use native.Mathlib.Numerals.{add-one, add-one-le}
 use native.Mathlib.Omega.{arith}
-use lib.ListN.{length, get_or, set, take, drop, replicate, length-append, length-drop, length-replicate, get_or-replicate, get_or-append}
+use lib.ListN.{length, get_or, set, drop, replicate, length-append, length-drop, length-replicate, get_or-replicate, get_or-append}
 use lib.Seq.{get_or-set_same, get_or-set_other, ext_get_or, get_or-drop, drop_at, drop-drop, set_at, get_or_at, drop-cons, drop-length, get_or-append-add, append_snoc}
 use lib.Ieee.{Float, nan}
 use lib.Dec.{eqb}

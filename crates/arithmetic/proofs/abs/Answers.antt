@@ -8,4 +8,4 @@ pub returns : goal.returns
 returns c =
     c.from_bits.ensures
     ∙ ap (λ (b : ℕ). of_bits binary64 (b % 2 ^ 63)) c.to_bits.ensures
-    ∙ abs_bits _ (truth c.before.before.well-formed.0.1)
+    ∙ abs_bits _ (truth c.well_formed.0.1)

@@ -1,6 +1,6 @@
 -- What `root` is at a double of a units, from any m and k with a * 2^1022 = m * 4^k and m between 2^52 and 2^54: it is q * 2^k units, for the q that is nearest to √(m * 2^52). Assumes nothing.
 use Rattle.std.proofs.Common.{◌≡◌, ℕ, zero, suc, ◌+◌, ◌-◌, ◌*◌, ◌/◌, ◌^◌, ◌<◌, ◌≤◌, true, false, ℤ, sym, ap, ◌∙◌, subst, true≢false, le_trans, le_of_eq, lt_of_lt_of_le, lt_irrefl, mul-le-mul_right, zero-lt-suc, mul_assoc, mul-pos, lt_of_not-le, zero-mul, mul_right_comm, mul-div_cancel, arith, pow_pos, pow_mono, pow-add, shl_lt}
-use lib.Ieee.{Float, fin, up, down, size, odd}
+use lib.Ieee.{Float, inf, nan, fin, up, down, size, odd}
 use lib.Ieee.Digits.{size-lt, size-le}
 use lib.Ieee.Fits.{down_pos}
 use lib.Ieee.Exact.{HasValue}
@@ -56,6 +56,8 @@ rooted v = odd 53 false (kept v (dropped v)) (dropped v) 1074
 
 root_units : (x : Float) (a : ℕ) → HasValue x false a (2 ^ 1074) → 0 < a → root x ≡ rooted (a * 2 ^ 1074)
 unfolding root
+root_units nan a h p = elim h [ ]
+root_units (inf _) a h p = elim h [ ]
 root_units (fin false zero e) a h p = absurd (no_units e a p h.1)
 root_units (fin false (suc m) e) a h p = ap (λ (n : ℕ). rooted (n * 2 ^ 1074)) (units_are (fin false (suc m) e) false a h)
 root_units (fin true zero e) a h p = absurd (no_units e a p h.1)

@@ -7,4 +7,4 @@ pub overflow_sub-result : goal.overflow_sub-result
 overflow_sub-result c = lower_le c.args.q (leb (2 * c.args.q) c.args.t) (omega arith)
 
 pub returns : goal.returns
-returns c = lower_near v c.args.q c.args.t (omega arith) e (omega arith)
+returns c v e = lower_near v c.args.q c.args.t (omega arith) e (omega arith)
