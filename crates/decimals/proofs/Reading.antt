@@ -1,12 +1,11 @@
 -- What the code tells of a cell: each test and each call, in the order in which they are made. Assumes nothing.
 use Prim.Native.Nat.{ℕ, suc, ◌+◌, ◌-◌, ◌*◌, ◌^◌, ◌<◌, ◌≤◌}
-use mathlib.Core.Path.{◌≡◌, refl, sym, ap, ◌∙◌, subst}
+use mathlib.Core.Path.{◌≡◌, refl, sym, ap, subst}
 use mathlib.Core.Bool.{Bool, true, false, cond}
 use mathlib.Core.List.{List, [], ◌∷◌, ◌++◌}
-use native.Mathlib.Decide.{dec_le}
 use native.Mathlib.Nat.{add-zero, lt_of_lt_of_le, mul_assoc, mul-le-mul_right, one-mul, mul-one, pow-suc, pow-succ', pow-le-pow_right}
 use native.Mathlib.Omega.{arith}
-use borrow.Author.Tests.{ltb-true, leb-true, lt-leb, le-leb}
+use borrow.Author.Tests.{ltb-true, leb-true}
 use lib.Dec.{lit<, leb}
 use lib.ListN.{length, drop, take}
 use lib.Seq.{take_all}
@@ -45,33 +44,9 @@ bare_all w e = rw e (take_all (length w - 0) w (omega arith))
 -- ---- the lengths
 
 module _ (p a b : ℕ) where
-  pub shaped_points : 1 < p → shaped p a b ≡ false
-  unfolding shaped
-  shaped_points h = rw (lt-leb p 1 h)
-
-  pub shaped_front : p ≤ 1 → a < 1 → shaped p a b ≡ false
-  unfolding shaped
-  shaped_front g h = rw (le-leb p 1 g, lt-leb 1 a h)
-
-  pub shaped_back : p ≤ 1 → 1 ≤ a → b < p → shaped p a b ≡ false
-  unfolding shaped
-  shaped_back g h k = rw (le-leb p 1 g, le-leb 1 a h, lt-leb p b k)
-
-  pub shaped_most : p ≤ 1 → 1 ≤ a → p ≤ b → shaped p a b ≡ leb (a + b) 15
-  unfolding shaped
-  shaped_most g h k = rw (le-leb p 1 g, le-leb 1 a h, le-leb p b k)
-
   pub shaped_sum : shaped p a b ≡ true → a + b ≤ 15
   unfolding shaped
   shaped_sum e = leb-true (a + b) 15 (four_yes (leb p 1) (leb 1 a) (leb p b) (leb (a + b) 15) e).3
-
--- what is left of 15 is what the code looks at
-pub most_leb : (a b : ℕ) → a ≤ 15 → leb b (15 - a) ≡ leb (a + b) 15
-most_leb a b h =
-    elim (dec_le (a + b) 15) [
-      | yes l ↦ let m : b ≤ 15 - a = omega arith in le-leb b (15 - a) m ∙ sym (le-leb (a + b) 15 l)
-      | no l ↦ let m : 15 - a < b = omega arith in let k : 15 < a + b = omega arith in lt-leb b (15 - a) m ∙ sym (lt-leb (a + b) 15 k)
-    ]
 
 -- ---- the digits
 

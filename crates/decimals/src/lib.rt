@@ -5,7 +5,7 @@ ghost use Rattle.std.specs.Prelude.{◌≡◌, ◌-◌, ◌^◌, ◌≤◌, ◌<
 ghost use Rattle.fields.specs.Inner.{spelled_after};
 ghost use Rattle.decimals.specs.Decimal.{over_tens, signed_by, decimal_read, cell_read};
 ghost use Rattle.decimals.specs.Inner.{fraction_read, bare_read};
-ghost use Rattle.decimals.specs.Decimal.{signed as signed_of, bare as bareOf, shaped as shapedOf};
+ghost use Rattle.decimals.specs.Decimal.{signed as signed_of, bare as bare_of, shaped as shaped_of};
 
 use fields::{Cell, Numeral};
 
@@ -21,7 +21,7 @@ fn signed(w: &[u8]) -> bool
 
 // What stands after the minus, or all of it.
 fn bare(w: &[u8]) -> &[u8]
-    ensures { result.now ≡ bareOf w.now }
+    ensures { result.now ≡ bare_of w.now }
 {
     if signed(w) {
         return &w[1..];
@@ -30,8 +30,9 @@ fn bare(w: &[u8]) -> &[u8]
 }
 
 // Whether so many points, bytes before and bytes after are a decimal's.
+#[tactic(auto, unfolding(crate::specs::Decimal::shaped))]
 fn shaped(points: usize, before: usize, after: usize) -> bool
-    ensures { result ≡ shapedOf points before after }
+    ensures { result ≡ shaped_of points before after }
 {
     if 1 < points {
         return false;

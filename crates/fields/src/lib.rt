@@ -3,7 +3,7 @@
 
 ghost use Rattle.std.specs.Prelude.{◌≡◌, ◌-◌, ◌≤◌, length};
 ghost use Rattle.fields.specs.Split.{split, end_of, last_piece, piece as piece_of};
-ghost use Rattle.fields.specs.Numerals.{bits_read, numeral_read, digit as digitOf};
+ghost use Rattle.fields.specs.Numerals.{bits_read, numeral_read, digit as digit_of};
 ghost use Rattle.fields.specs.Inner.{spelled_after};
 
 #[derive(Clone, Copy)]
@@ -81,7 +81,7 @@ pub fn last_piece(s: &[u8], d: u8) -> &[u8]
 
 // What a digit is worth; 16 where the byte is no digit.
 pub fn digit(b: u8) -> usize
-    ensures { result ≡ digitOf b }
+    ensures { result ≡ digit_of b }
 {
     let v = b as usize;
     if v < 48 {

@@ -3,7 +3,7 @@ use Prim.Native.Nat.{ℕ, zero, suc, ◌+◌, ◌*◌, ◌/◌, ◌%◌, ◌^◌
 use mathlib.Core.Path.{◌≡◌, refl, sym, ap, ◌∙◌, subst}
 use mathlib.Core.Bool.{Bool, true, false, cond, true≢false}
 use mathlib.Core.Logic.{⊎_elim}
-use native.Mathlib.Nat.{mul-one, mul-pos, mul-le-mul_right, mul-lt-mul_of_pos_right, le_trans, le_of_lt, lt_of_not-le, mul-le-mul, lt_of_lt_of_le, mod-eq_of_lt}
+use native.Mathlib.Nat.{mul-one, mul-pos, mul-le-mul_right, mul-lt-mul_of_pos_right, le_trans, le_of_lt, lt_of_not-le, mul-le-mul, lt_of_lt_of_le}
 use native.Mathlib.Omega.{arith}
 use native.Mathlib.Decide.{dec_le}
 use borrow.Author.Tests.{eq-eqb, ne_eqb, le-leb, lt-leb, leb-true, leb-false}

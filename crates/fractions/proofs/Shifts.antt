@@ -1,14 +1,12 @@
 -- Digits shifted: the whole part and the fraction left over of m * 2^place units, and a fraction whose digits are shifted to the left. Assumes nothing.
 use Prim.Native.Nat.{ℕ, zero, suc, ◌+◌, ◌-◌, ◌*◌, ◌/◌, ◌%◌, ◌^◌, ◌≤◌, ◌<◌, min}
-use mathlib.Core.Path.{◌≡◌, refl, sym, ap, ◌∙◌, subst}
-use native.Mathlib.Nat.{mul_assoc, mul-one, one-mul, zero-mul, add-zero, mul_right_comm, lt_of_lt_of_le, lt_of_not-le, mod-eq_of_lt, div-eq_of_lt, mul-mod_left, mul-add-mod_self_right, mul-add-div_right}
+use mathlib.Core.Path.{◌≡◌, refl, sym, ap, ◌∙◌}
+use native.Mathlib.Nat.{mul_assoc, mul-one, one-mul, zero-mul, add-zero, mul_right_comm, lt_of_lt_of_le, lt_of_not-le, mod-eq_of_lt, div-eq_of_lt, mul-mod_left, mul-add-mod_self_right}
 use native.Mathlib.Omega.{arith}
 use native.Mathlib.Decide.{dec_le}
-use lib.Pow.{pow_pos, pow-lt, pow_mono, pow-add, shl-shr, shr-shr, mod-pow-add}
+use lib.Pow.{pow-lt, pow_mono, pow-add, shl-shr, shr-shr, mod-pow-add}
 use Rattle.arithmetic.specs.Inner.{worth_at}
-use Rattle.fractions.specs.Inner.{Worth, Normal, Holds, fraction}
-use Rattle.fractions.specs.declared.Digits.{Digits}
-use Rattle.fractions.specs.declared.Fraction.{Fraction}
+use Rattle.fractions.specs.Inner.{Holds, fraction}
 
 -- ---- the digits of a pattern
 

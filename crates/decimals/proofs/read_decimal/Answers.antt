@@ -13,5 +13,5 @@ returns-in-Malformed c =
 
 pub returns-in-Of : goal.returns-in-Of
 returns-in-Of c =
-    ap cell.Of (c.Signed-by.ensures ∙ ap (λ (t : Bool). signed_by t c.in-Of.x) c.signed.ensures)
+    ap cell.Of (c.signed_by.ensures ∙ ap (λ (t : Bool). signed_by t c.in-Of.x) c.signed.ensures)
     ∙ sym (decimal_some _ _ (sym (c.read_bare-size.ensures ∙ ap bare_read c.bare.ensures) ∙ c.in-Of.is))

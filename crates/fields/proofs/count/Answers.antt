@@ -1,9 +1,9 @@
 -- `fields::count` meets its contract. The d's counted and the pieces from place i on are the pieces. Assumes nothing.
-use mathlib.Core.Logic.{⊎_elim}
 use native.Mathlib.Nat.{zero-add}
 use native.Mathlib.Omega.{arith}
 use Rattle.fields.proofs.Pieces.{count_here, count_on, count_end}
 use Rattle.fields.proofs.count.Goals as goal
+use Rattle.fields.proofs.count.Goals.{then-s-i, else-s-i}
 
 pub loop-i-init : goal.loop-i-init
 loop-i-init c = (omega arith, omega arith, zero-add _)
@@ -22,10 +22,10 @@ loop-i-smaller c = omega arith
 
 pub loop-i-preserved : goal.loop-i-preserved
 loop-i-preserved c =
-    ⊎_elim
-    (λ w. let e = count_here c.args.d c.args.s.now c.loop-i.i (omega arith) w.0.taken in (omega arith, omega arith, omega arith))
-    (λ w. let e = count_on c.args.d c.args.s.now c.loop-i.i (omega arith) w.0.left in (omega arith, omega arith, omega arith))
-    c.if-s-i.branch
+    elim c.if-s-i.branch [
+      | then-s-i w ↦ let e = count_here c.args.d c.args.s.now c.loop-i.i (omega arith) w.if-s-i.true in (omega arith, omega arith, omega arith)
+      | else-s-i w ↦ let e = count_on c.args.d c.args.s.now c.loop-i.i (omega arith) w.if-s-i.false in (omega arith, omega arith, omega arith)
+    ]
 
 pub returns : goal.returns
 returns c =

@@ -29,7 +29,7 @@ returns-then-e-s c =
 
 pub overflow_add-at : goal.overflow_add-at
 overflow_add-at c =
-    omega (arith, end_le c.args.d c.args.s.now c.loop-j.at c.loop-j.invariant.1, c.end_of-e.ensures, at.before.before.well-formed)
+    omega (arith, end_le c.args.d c.args.s.now c.loop-j.at c.loop-j.invariant.1, c.end_of-e.ensures, c.well_formed)
 
 pub overflow_add-j : goal.overflow_add-j
 overflow_add-j c = omega arith
@@ -38,12 +38,11 @@ pub loop-j-smaller : goal.loop-j-smaller
 loop-j-smaller c = omega arith
 
 pub loop-j-preserved : goal.loop-j-preserved
-loop-j-preserved c =
-    (
-      omega arith,
-      omega (arith, end_le c.args.d c.args.s.now c.loop-j.at c.loop-j.invariant.1),
-      c.loop-j.invariant.2 ∙ rw c.end_of-e.ensures (piece_next c.args.d c.args.s.now c.loop-j.at c.loop-j.invariant.1 c.args.k c.loop-j.j (omega arith) (λ e. c.if-e-s.false (c.end_of-e.ensures ∙ e))),
-    )
+loop-j-preserved c = (
+  omega arith,
+  omega (arith, end_le c.args.d c.args.s.now c.loop-j.at c.loop-j.invariant.1),
+  c.loop-j.invariant.2 ∙ rw c.end_of-e.ensures (piece_next c.args.d c.args.s.now c.loop-j.at c.loop-j.invariant.1 c.args.k c.loop-j.j (omega arith) (λ e. c.if-e-s.false (c.end_of-e.ensures ∙ e))),
+)
 
 pub slice_bounds-result-count-2 : goal.slice_bounds-result-count-2
 slice_bounds-result-count-2 c =

@@ -1,7 +1,6 @@
 -- `fractions::all_in_range` meets its contract. What is left from place i on decides. Assumes nothing.
 use mathlib.Core.Path.{refl, sym, ◌∙◌}
 use native.Mathlib.Omega.{arith}
-use borrow.Author.Tests.{not-true, not-false}
 use lib.Ieee.{nan}
 use Rattle.fractions.specs.Fractions.{in_range}
 use Rattle.fields.proofs.Every.{all_end, all_yes, all_no}
@@ -18,7 +17,7 @@ bounds-weights-i c = omega arith
 
 pub returns-then-not-in_range : goal.returns-then-not-in_range
 returns-then-not-in_range c =
-    sym (c.loop-i.invariant.1 ∙ all_no in_range _ c.loop-i.i nan (omega arith) (sym c.in_range.ensures ∙ not-true _ c.if-not-in_range.true))
+    sym (c.loop-i.invariant.1 ∙ all_no in_range _ c.loop-i.i nan (omega arith) (sym c.in_range.ensures ∙ c.if-not-in_range.true))
 
 pub overflow_add-i : goal.overflow_add-i
 overflow_add-i c = omega arith
@@ -28,7 +27,7 @@ loop-i-smaller c = omega arith
 
 pub loop-i-preserved : goal.loop-i-preserved
 loop-i-preserved c =
-    (omega arith, c.loop-i.invariant.1 ∙ all_yes in_range _ c.loop-i.i nan (omega arith) (sym c.in_range.ensures ∙ not-false _ c.if-not-in_range.false))
+    (omega arith, c.loop-i.invariant.1 ∙ all_yes in_range _ c.loop-i.i nan (omega arith) (sym c.in_range.ensures ∙ c.if-not-in_range.false))
 
 pub returns : goal.returns
 returns c =

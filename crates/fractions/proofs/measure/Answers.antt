@@ -48,13 +48,12 @@ loop-i-smaller c = omega arith
 
 pub loop-i-preserved : goal.loop-i-preserved
 unfolding whole_at left_at
-loop-i-preserved c =
-    (
-      omega arith,
-      simp length-set c.loop-i.invariant.1,
-      tab_step _ _ _ _ _ _ refl c.loop-i.invariant.2 c.parts_of-x.ensures.whole_is (omega (arith, c.requires.weights_in_bounds)),
-      keyed_more _ c.loop-i.i _ _ _ _ c.loop-i.invariant.3 (omega (arith, c.requires.weights_len_bound)) c.parts_of-x.ensures.left_is,
-    )
+loop-i-preserved c = (
+  omega arith,
+  simp length-set c.loop-i.invariant.1,
+  tab_step _ _ _ _ _ _ refl c.loop-i.invariant.2 c.parts_of-x.ensures.whole_is (omega (arith, c.requires.weights_in_bounds)),
+  keyed_more _ c.loop-i.i _ _ _ _ c.loop-i.invariant.3 (omega (arith, c.requires.weights_len_bound)) c.parts_of-x.ensures.left_is,
+)
 
 pub shape_of-wholes : goal.shape_of-wholes
 shape_of-wholes c = c.loop-i.invariant.1
@@ -62,6 +61,6 @@ shape_of-wholes c = c.loop-i.invariant.1
 pub returns : goal.returns
 unfolding wholes_in
 returns c = record {
-      wholes_after = tab_end _ _ _ _ _ c.loop-i.invariant.2 c.loop-i.invariant.0 c.loop-i-test.false;
-      keyed_2 = keyed_end _ _ _ c.loop-i.i _ c.loop-i.invariant.3 c.loop-i.invariant.0 c.loop-i-test.false;
-    }
+  wholes_after = tab_end _ _ _ _ _ c.loop-i.invariant.2 c.loop-i.invariant.0 c.loop-i-test.false;
+  keyed_2 = keyed_end _ _ _ c.loop-i.i _ c.loop-i.invariant.3 c.loop-i.invariant.0 c.loop-i-test.false;
+}

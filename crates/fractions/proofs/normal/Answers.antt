@@ -1,8 +1,9 @@
 -- `fractions::normal` meets its contract: each turn keeps the value. Assumes nothing.
+use Prim.Native.Nat.{◌^◌, ◌≤◌, ◌<◌}
 use mathlib.Core.Path.{refl, ◌∙◌}
-use mathlib.Core.Logic.{⊎_elim}
 use native.Mathlib.Omega.{arith}
 use Rattle.fractions.proofs.Shifts.{doubled, packed, nothing}
+use Rattle.fractions.proofs.normal.Goals.{else-loop-place-test, then-loop-place-test+then-high-ge1099511627776}
 use Rattle.fractions.proofs.normal.Goals as goal
 
 pub returns-then-low0-eq0 : goal.returns-then-low0-eq0
@@ -42,4 +43,9 @@ overflow_add-result c = omega arith
 
 pub returns : goal.returns
 returns c =
-    packed c.loop-place.high c.loop-place.low c.loop-place.place _ c.loop-place.invariant.0 c.loop-place.invariant.1 (⊎_elim (λ l. λ h. absurd (omega arith)) (λ t. λ h. t.1.taken) c.loop-place-test.branch) c.loop-place.invariant.3
+    let full : 0 < c.loop-place.place → 2 ^ 40 ≤ c.loop-place.high =
+    elim c.loop-place-test.branch [
+      | else-loop-place-test w ↦ λ h. absurd (omega arith)
+      | then-loop-place-test+then-high-ge1099511627776 w ↦ λ h. w.if-high-ge1099511627776.true
+    ] in
+    packed c.loop-place.high c.loop-place.low c.loop-place.place _ c.loop-place.invariant.0 c.loop-place.invariant.1 full c.loop-place.invariant.3

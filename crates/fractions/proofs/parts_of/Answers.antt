@@ -10,19 +10,19 @@ use Rattle.fractions.proofs.Shifts.{whole_by, left_by}
 use Rattle.fractions.proofs.parts_of.Goals as goal
 
 pub digits_of-d-requires : goal.digits_of-d-requires
-digits_of-d-requires c = up_to_one _ (truth c.before.well-formed.0.1) _ c.to_bits.ensures c.requires
+digits_of-d-requires c = up_to_one _ (truth c.well_formed.0.1) _ c.to_bits.ensures c.requires
 
 pub normal-left-requires : goal.normal-left-requires
 normal-left-requires c = record {
-      high0_bound = omega (arith, c.lowest.ensures, mod-le c.scaled-x.result (2 ^ c.right_of_whole-s.result), c.scaled-x.ensures, c.digits_of-d.ensures.small);
-      low0_bound = omega arith;
-      place0_bound = c.digits_of-d.ensures.low;
-    }
+  high0_bound = omega (arith, c.lowest.ensures, mod-le c.scaled-x.result (2 ^ c.right_of_whole-s.result), c.scaled-x.ensures, c.digits_of-d.ensures.small);
+  low0_bound = omega arith;
+  place0_bound = c.digits_of-d.ensures.low;
+}
 
 pub returns : goal.returns
 unfolding whole_part left_over
 returns c =
-    let fit = truth start.well-formed.0.1 in
+    let fit = truth c.well_formed.0.1 in
     let u = c.digits_of-d.ensures.value ∙ units_worth _ fit _ c.to_bits.ensures (up_to_one _ fit _ c.to_bits.ensures c.requires) in
     record {
       whole_is = whole_by c.digits_of-d.result.m c.digits_of-d.result.place c.digits_of-d.ensures.small c.digits_of-d.ensures.low _ _ _ c.scaled-x.ensures c.right_of_whole-s.ensures refl ∙ ap (λ (a : ℕ). a * 1000000 / 2 ^ 1074) u;

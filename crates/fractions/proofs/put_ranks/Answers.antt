@@ -10,9 +10,9 @@ loop-i-init c = (omega arith, refl, tab_start _ _)
 
 pub rank-requires : goal.rank-requires
 rank-requires c = record {
-      all_keyed = c.requires.all_keyed;
-      i_lt_n = c.loop-i-test.true;
-    }
+  all_keyed = c.requires.all_keyed;
+  i_lt_n = c.loop-i-test.true;
+}
 
 pub offset_bounds-ranks-i : goal.offset_bounds-ranks-i
 offset_bounds-ranks-i c = omega (arith, c.requires.n_in_bounds)

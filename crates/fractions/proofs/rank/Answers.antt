@@ -1,18 +1,12 @@
 -- `fractions::rank` meets its contract. Assumes nothing.
-use Prim.Native.Nat.{ℕ}
 use mathlib.Core.Path.{ap, ◌∙◌}
-use mathlib.Core.List.{List}
 use native.Mathlib.Omega.{arith}
 use Rattle.lent.specs.Count.{one}
 use Rattle.lent.proofs.Counting.{one_le}
 use Rattle.fractions.specs.Fractions.{sooner, rank_of}
-use Rattle.fractions.specs.Inner.{value_at}
 use Rattle.fractions.proofs.Ranks.{cast_one, count_start, count_more, count_end}
+use Rattle.fractions.proofs.rank.Invariants.{counted}
 use Rattle.fractions.proofs.rank.Goals as goal
-
-
-abbrev counted : List ℕ → List ℕ → ℕ → ℕ → ℕ
-counted tops lows i a = one (sooner (value_at tops lows) a i)
 
 pub offset_bounds-tops-i : goal.offset_bounds-tops-i
 offset_bounds-tops-i c = omega (arith, c.requires.all_keyed.few)
@@ -44,9 +38,9 @@ bounds-lows-j c = omega (arith, c.requires.all_keyed.few)
 
 pub is_sooner-requires : goal.is_sooner-requires
 is_sooner-requires c = record {
-      normal = c.requires.all_keyed.normal c.loop-j.j c.loop-j-test.true;
-      normal_2 = c.requires.all_keyed.normal c.args.i c.requires.i_lt_n;
-    }
+  normal = c.requires.all_keyed.normal c.loop-j.j c.loop-j-test.true;
+  normal_2 = c.requires.all_keyed.normal c.args.i c.requires.i_lt_n;
+}
 
 pub overflow_add-k : goal.overflow_add-k
 overflow_add-k c =
@@ -60,12 +54,11 @@ loop-j-smaller c = omega arith
 
 pub loop-j-preserved : goal.loop-j-preserved
 unfolding sooner
-loop-j-preserved c =
-    (
-      omega arith,
-      count_more (counted c.args.tops.now c.args.lows.now c.args.i) c.loop-j.k _ c.loop-j.j c.loop-j.invariant.1 (cast_one c.is_sooner.result ∙ ap one c.is_sooner.ensures),
-      omega (arith, cast_one c.is_sooner.result, one_le c.is_sooner.result),
-    )
+loop-j-preserved c = (
+  omega arith,
+  count_more (counted c.args.tops.now c.args.lows.now c.args.i) c.loop-j.k _ c.loop-j.j c.loop-j.invariant.1 (cast_one c.is_sooner.result ∙ ap one c.is_sooner.ensures),
+  omega (arith, cast_one c.is_sooner.result, one_le c.is_sooner.result),
+)
 
 pub returns : goal.returns
 unfolding rank_of

@@ -13,13 +13,10 @@ shape_of-ranks-in_default c = c.clear_numbers_from-2.auto.out
 
 pub returns-in_default : goal.returns-in_default
 returns-in_default c = record {
-      value = c.judge-said.ensures;
-      wholes_after = (
-        wholes_refused _ _ _ _ c.judge-said.ensures _ _ c.in_default.is (simp unary_clauses at c.clear_numbers_from.ensures),
-        ranks_refused _ _ _ _ c.judge-said.ensures _ _ c.in_default.is (simp unary_clauses at c.clear_numbers_from-2.ensures),
-      );
-      ranks_after = ;
-    }
+  value = c.judge-said.ensures;
+  wholes_after = wholes_refused _ _ _ _ c.judge-said.ensures _ _ c.in_default.is (simp unary_clauses at c.clear_numbers_from.ensures);
+  ranks_after = ranks_refused _ _ _ _ c.judge-said.ensures _ _ c.in_default.is (simp unary_clauses at c.clear_numbers_from-2.ensures);
+}
 
 pub fill-requires : goal.fill-requires
 fill-requires c =
@@ -39,10 +36,7 @@ shape_of-ranks c = c.fill.auto.ranks ∙ c.clear_numbers_from-2.auto.out
 
 pub returns : goal.returns
 returns c = record {
-      value = c.judge-said.ensures;
-      wholes_after = (
-        wholes_done _ _ _ _ c.judge-said.ensures _ _ c.in-Done.is (simp unary_clauses at c.clear_numbers_from.ensures) c.fill.ensures.wholes_after,
-        ranks_done _ _ _ _ c.judge-said.ensures _ _ c.in-Done.is (simp unary_clauses at c.clear_numbers_from-2.ensures) c.fill.ensures.ranks_after,
-      );
-      ranks_after = ;
-    }
+  value = c.judge-said.ensures;
+  wholes_after = wholes_done _ _ _ _ c.judge-said.ensures _ _ c.in-Done.is (simp unary_clauses at c.clear_numbers_from.ensures) c.fill.ensures.wholes_after;
+  ranks_after = ranks_done _ _ _ _ c.judge-said.ensures _ _ c.in-Done.is (simp unary_clauses at c.clear_numbers_from-2.ensures) c.fill.ensures.ranks_after;
+}

@@ -1,7 +1,7 @@
 -- `names::is_name` meets its contract. Assumes nothing.
 use mathlib.Core.Path.{sym, ap, ◌∙◌}
 use mathlib.Core.Bool.{not}
-use borrow.Author.Tests.{le-leb, lt-leb, not-true, not-false}
+use borrow.Author.Tests.{le-leb, lt-leb}
 use Rattle.names.specs.Names.{is_name}
 use Rattle.names.proofs.is_name.Goals as goal
 
@@ -16,14 +16,14 @@ returns-then-w-gt16 c = simp (le-leb 1 _ c.if-w-lt1.false, lt-leb _ 16 c.if-w-gt
 pub returns-then-not-all_in_name : goal.returns-then-not-all_in_name
 unfolding is_name
 returns-then-not-all_in_name c =
-    simp (le-leb 1 _ c.if-w-lt1.false, le-leb _ 16 c.if-w-gt16.false, sym c.all_in_name.ensures ∙ not-true _ c.if-not-all_in_name.true)
+    simp (le-leb 1 _ c.if-w-lt1.false, le-leb _ 16 c.if-w-gt16.false, sym c.all_in_name.ensures ∙ c.if-not-all_in_name.true)
 
 pub returns-then-same : goal.returns-then-same
 unfolding is_name
 returns-then-same c =
-    simp (le-leb 1 _ c.if-w-lt1.false, le-leb _ 16 c.if-w-gt16.false, sym c.all_in_name.ensures ∙ not-false _ c.if-not-all_in_name.false, sym c.same.ensures ∙ c.if-same.true)
+    simp (le-leb 1 _ c.if-w-lt1.false, le-leb _ 16 c.if-w-gt16.false, sym c.all_in_name.ensures ∙ c.if-not-all_in_name.false, sym c.same.ensures ∙ c.if-same.true)
 
 pub returns : goal.returns
 unfolding is_name
 returns c =
-    simp (le-leb 1 _ c.if-w-lt1.false, le-leb _ 16 c.if-w-gt16.false, sym c.all_in_name.ensures ∙ not-false _ c.if-not-all_in_name.false, sym c.same.ensures ∙ c.if-same.false) (ap not c.same-2.ensures)
+    simp (le-leb 1 _ c.if-w-lt1.false, le-leb _ 16 c.if-w-gt16.false, sym c.all_in_name.ensures ∙ c.if-not-all_in_name.false, sym c.same.ensures ∙ c.if-same.false) (ap not c.same-2.ensures)

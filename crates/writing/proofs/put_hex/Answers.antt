@@ -5,9 +5,9 @@ use Rattle.writing.proofs.put_hex.Goals as goal
 
 pub put_digits-requires : goal.put_digits-requires
 put_digits-requires c = record {
-      base_nonzero = omega arith;
-      base_bound = omega arith;
-    }
+  base_nonzero = omega arith;
+  base_bound = omega arith;
+}
 
 pub shape_of-out : goal.shape_of-out
 shape_of-out c = c.put_digits.auto.out
