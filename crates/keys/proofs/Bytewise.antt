@@ -1,18 +1,17 @@
 -- The order of keys is byte order: for names of up to 16 bytes, none of which is 0. Assumes nothing.
 use Prim.Native.Nat.{ℕ, zero, suc, ◌+◌, ◌*◌, ◌^◌, ◌<◌, ◌≤◌}
-use mathlib.Core.Path.{◌≡◌, refl, sym, ap, subst, ◌∙◌}
+use mathlib.Core.Path.{◌≡◌, refl, sym, ap, ◌∙◌}
 use mathlib.Core.Bool.{Bool, true, false, cond, ◌&&◌}
 use mathlib.Core.List.{List, [], ◌∷◌}
 use mathlib.Core.Logic.{⊎_elim}
-use native.Mathlib.Nat.{mul_assoc, pow-suc, suc-add, add-zero, zero-add, mul-le-mul_right, suc-mul, eq-or-lt_of_le}
-use native.Mathlib.Numerals.{add-one}
+use native.Mathlib.Nat.{mul_assoc, pow-suc, suc-add, zero-add, mul-le-mul_right, suc-mul, eq-or-lt_of_le}
 use native.Mathlib.Omega.{arith}
-use borrow.Author.Tests.{lt-ltb, le-ltb, eq-eqb, ne_eqb, ltb-true, ltb-false, eqb-true, eqb-false}
+use borrow.Author.Tests.{lt-ltb, le-ltb, eq-eqb, ne_eqb, ltb-true, ltb-false}
 use lib.Dec.{ltb, eqb}
 use lib.ListN.{length, get_or, drop}
 use lib.Seq.{get_or-drop, drop-nil}
 use Rattle.lent.proofs.Laws.{either, same_or_not}
-use Rattle.keys.specs.Keys.{word_from, key_of, key_before, key_same}
+use Rattle.keys.specs.Keys.{word_from, key_of, key_before}
 use Rattle.keys.specs.Meaning.{bytes_before, NameBytes}
 
 -- the first byte, and the rest; a text that has ended goes on with 0

@@ -1,8 +1,8 @@
 -- What the millionths of an accepted list are: they total 1,000,000, nobody moves by more than one, the largest fractions are served first, and no other list is so. Assumes nothing.
 use Prim.Native.Nat.{ℕ, ◌+◌, ◌≤◌, ◌<◌}
 use mathlib.Core.Path.{◌≡◌, sym, ap, subst, ◌∙◌}
-use mathlib.Core.Bool.{Bool, true, false}
-use mathlib.Core.Logic.{◌⊎◌, inl, inr, ⊎_elim}
+use mathlib.Core.Bool.{Bool, false}
+use mathlib.Core.Logic.{⊎_elim}
 use mathlib.Core.List.{List}
 use native.Mathlib.Omega.{arith}
 use borrow.Author.Tests.{ltb-true, ltb-false, lt-ltb, le-ltb}
@@ -21,7 +21,7 @@ use Rattle.fractions.proofs.Ranks.{one_mono, upto_less, upto_most}
 use Rattle.fractions.proofs.Order.{sooner_is, is_sooner, not_both, irreflexive, rank_order, ranked}
 use Rattle.millionths.specs.Meaning.{total_of, Serves}
 use Rattle.millionths.specs.Millionths.{whole_total, missing, millionths_at, millionths_in, out_of_reach, millionths_lines, millionths_outcome}
-use Rattle.millionths.proofs.Lists.{Accepted, accepted}
+use Rattle.millionths.proofs.Lists.{accepted}
 
 module _ (ws : List Float) where
   abbrev rank : ℕ → ℕ

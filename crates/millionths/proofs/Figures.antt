@@ -5,7 +5,7 @@ use mathlib.Core.Bool.{Bool, true, false, ◌&&◌}
 use mathlib.Core.List.{List, [], ◌∷◌, map}
 use lib.Dec.{eqb}
 use lib.Count.{count_trailing_zeros}
-use lib.Ieee.{Float, binary64, size, odd, of_fields, of_bits}
+use lib.Ieee.{binary64, size, odd, of_fields, of_bits}
 use Rattle.fields.specs.Split.{all}
 use Rattle.refusal.specs.Table.{first}
 use Rattle.refusal.specs.Telling.{outcome_tells}

@@ -1,16 +1,15 @@
 -- How the call over a list of weights ends: judged, cleared, filled. Assumes nothing.
 use Prim.Native.Nat.{ℕ, zero, suc, ◌+◌, ◌-◌, ◌≤◌, ◌<◌}
-use mathlib.Core.Path.{◌≡◌, refl, sym, ap, subst, ◌∙◌}
+use mathlib.Core.Path.{◌≡◌, refl, sym, ap, ◌∙◌}
 use mathlib.Core.Bool.{Bool, true, false, not, ◌||◌}
 use mathlib.Core.Logic.{⊎_elim}
 use mathlib.Core.List.{List, [], ◌∷◌, ◌++◌}
 use native.Mathlib.Nat.{eq-or-lt_of_le, le_trans, le_of_eq, add-le-add}
-use native.Mathlib.Numerals.{unary_clauses}
 use native.Mathlib.Omega.{arith}
-use borrow.Author.Tests.{ltb-true, ltb-false, lt-ltb, le-ltb, not-false}
+use borrow.Author.Tests.{ltb-true, ltb-false, le-ltb, not-false}
 use lib.Dec.{ltb}
 use lib.Ieee.{Float}
-use lib.ListN.{length, get_or, take, get_or-replicate, get_or-append}
+use lib.ListN.{length, get_or, get_or-replicate, get_or-append}
 use lib.Seq.{get_or-append-add}
 use Rattle.refusal.specs.Table.{first, or_else, and_then}
 use Rattle.refusal.specs.declared.Refusal.{Refusal}

@@ -37,7 +37,7 @@ overflow_sub-gap c = omega (arith, c.smaller-kept.ensures)
 
 pub overflow_add-parts : goal.overflow_add-parts
 overflow_add-parts c =
-    let k = c.type_inv.ceilings.given c.loop-i.i in
+    let k = c.type_inv.ceilings c.loop-i.i in
     omega (arith, c.smaller-more.ensures, c.smaller-kept.ensures)
 
 pub offset_bounds-parts-i-in-loop-i : goal.offset_bounds-parts-i-in-loop-i

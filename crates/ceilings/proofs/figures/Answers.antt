@@ -22,20 +22,18 @@ shape_of-out-then-ceilings-eq0 c = c.weights_in_millionths-parted.auto.out
 
 pub returns-then-ceilings-eq0 : goal.returns-then-ceilings-eq0
 returns-then-ceilings-eq0 c = record {
-      value = plain_said c.args.weights.now c.args.ceilings.now _ _ _ c.weights_in_millionths-parted.ensures.value c.weights_in_millionths-parted.ensures.out_after c.if-ceilings-eq0.true;
-      out_after = plain_laid c.args.weights.now c.args.ceilings.now _ _ _ c.weights_in_millionths-parted.ensures.value c.weights_in_millionths-parted.ensures.out_after c.if-ceilings-eq0.true;
-    }
+  value = plain_said c.args.weights.now c.args.ceilings.now _ _ _ c.weights_in_millionths-parted.ensures.value c.weights_in_millionths-parted.ensures.out_after c.if-ceilings-eq0.true;
+  out_after = plain_laid c.args.weights.now c.args.ceilings.now _ _ _ c.weights_in_millionths-parted.ensures.value c.weights_in_millionths-parted.ensures.out_after c.if-ceilings-eq0.true;
+}
 
 pub shape_of-out-in_default-parted : goal.shape_of-out-in_default-parted
 shape_of-out-in_default-parted c = c.weights_in_millionths-parted.auto.out
 
 pub returns-in_default-parted : goal.returns-in_default-parted
 returns-in_default-parted c = record {
-      value = part_said c.args.weights.now c.args.ceilings.now _ _ c.judge_sizes-sized.ensures c.in-Done.is _ _ c.weights_in_millionths-parted.ensures.value c.weights_in_millionths-parted.ensures.out_after _ c.in_default-parted.is;
-      out_after = (
-      part_laid c.args.weights.now c.args.ceilings.now _ _ c.judge_sizes-sized.ensures c.in-Done.is _ _ c.weights_in_millionths-parted.ensures.value c.weights_in_millionths-parted.ensures.out_after _ c.in_default-parted.is,
-    );
-    }
+  value = part_said c.args.weights.now c.args.ceilings.now _ _ c.judge_sizes-sized.ensures c.in-Done.is _ _ c.weights_in_millionths-parted.ensures.value c.weights_in_millionths-parted.ensures.out_after _ c.in_default-parted.is;
+  out_after = part_laid c.args.weights.now c.args.ceilings.now _ _ c.judge_sizes-sized.ensures c.in-Done.is _ _ c.weights_in_millionths-parted.ensures.value c.weights_in_millionths-parted.ensures.out_after _ c.in_default-parted.is;
+}
 
 pub slice_bounds-under_ceilings-end : goal.slice_bounds-under_ceilings-end
 slice_bounds-under_ceilings-end c =
@@ -51,8 +49,6 @@ shape_of-out c =
 
 pub returns : goal.returns
 returns c = record {
-      value = under_said c.args.weights.now c.args.ceilings.now _ _ c.judge_sizes-sized.ensures c.in-Done.is _ _ c.weights_in_millionths-parted.ensures.value c.weights_in_millionths-parted.ensures.out_after c.in-Done-parted.is c.if-ceilings-eq0.false _ _ c.under_ceilings.ensures.value c.under_ceilings.ensures.parts_after;
-      out_after = (
-      under_laid c.args.weights.now c.args.ceilings.now _ _ c.judge_sizes-sized.ensures c.in-Done.is _ _ c.weights_in_millionths-parted.ensures.value c.weights_in_millionths-parted.ensures.out_after c.in-Done-parted.is c.if-ceilings-eq0.false _ _ c.under_ceilings.ensures.value c.under_ceilings.ensures.parts_after,
-    );
-    }
+  value = under_said c.args.weights.now c.args.ceilings.now _ _ c.judge_sizes-sized.ensures c.in-Done.is _ _ c.weights_in_millionths-parted.ensures.value c.weights_in_millionths-parted.ensures.out_after c.in-Done-parted.is c.if-ceilings-eq0.false _ _ c.under_ceilings.ensures.value c.under_ceilings.ensures.parts_after;
+  out_after = under_laid c.args.weights.now c.args.ceilings.now _ _ c.judge_sizes-sized.ensures c.in-Done.is _ _ c.weights_in_millionths-parted.ensures.value c.weights_in_millionths-parted.ensures.out_after c.in-Done-parted.is c.if-ceilings-eq0.false _ _ c.under_ceilings.ensures.value c.under_ceilings.ensures.parts_after;
+}

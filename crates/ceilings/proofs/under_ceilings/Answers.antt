@@ -8,9 +8,9 @@ shape_of-parts-in_default c = c.clear_numbers_from.auto.out
 
 pub returns-in_default : goal.returns-in_default
 returns-in_default c = record {
-      value = c.judge-said.ensures;
-      parts_after = ends_refused _ _ _ c.judge-said.ensures _ _ c.in_default.is (cleared c.args.parts.now _ c.clear_numbers_from.ensures);
-    }
+  value = c.judge-said.ensures;
+  parts_after = ends_refused _ _ _ c.judge-said.ensures _ _ c.in_default.is (cleared c.args.parts.now _ c.clear_numbers_from.ensures);
+}
 
 pub cap-requires : goal.cap-requires
 cap-requires c = cappable _ _ _ c.judge-said.ensures c.in-Done.is
@@ -20,6 +20,6 @@ shape_of-parts c = c.cap.auto.parts
 
 pub returns : goal.returns
 returns c = record {
-      value = c.judge-said.ensures;
-      parts_after = ends_done _ _ _ c.judge-said.ensures _ c.in-Done.is c.cap.ensures;
-    }
+  value = c.judge-said.ensures;
+  parts_after = ends_done _ _ _ c.judge-said.ensures _ c.in-Done.is c.cap.ensures;
+}

@@ -6,15 +6,15 @@ use Rattle.keys.proofs.Cut.{sixteen, end_in, cut_name}
 use Rattle.keys.proofs.put_key.Goals as goal
 
 pub slice_bounds-end_of-end : goal.slice_bounds-end_of-end
-slice_bounds-end_of-end c = sixteen _ _ c.type_inv.bytes.ensures
+slice_bounds-end_of-end c = sixteen _ _ c.fill.ensures
 
 pub slice_bounds-bytes-end : goal.slice_bounds-bytes-end
 slice_bounds-bytes-end c = end_in _ _ c.end_of-e.ensures
 
 pub slice_bounds-put_bytes-end : goal.slice_bounds-put_bytes-end
-slice_bounds-put_bytes-end c = sym (length-take-le _ _ (slice_bounds-bytes-end c))
+slice_bounds-put_bytes-end c = sym (length-take-le _ _ (end_in _ _ c.end_of-e.ensures))
 
 pub returns : goal.returns
 returns c =
     renamed_put _ c.put_bytes.ensures
-    (cut_name _ _ _ c.type_inv.bytes.ensures c.end_of-e.ensures)
+    (cut_name _ _ _ c.fill.ensures c.end_of-e.ensures)

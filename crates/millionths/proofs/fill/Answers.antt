@@ -1,18 +1,12 @@
 -- `millionths::fill` meets its contract. Assumes nothing.
 use Prim.Native.Nat.{ℕ, ◌+◌}
 use mathlib.Core.Path.{refl, ap}
-use mathlib.Core.List.{List}
 use native.Mathlib.Omega.{arith}
 use lib.Dec.{ltb}
 use lib.ListN.{get_or, length-set}
-use Rattle.lent.specs.Count.{one}
 use Rattle.lent.proofs.Counting.{one_le}
 use Rattle.lent.proofs.Fill.{tab_start, tab_step, tab_end}
 use Rattle.millionths.proofs.fill.Goals as goal
-
-
-abbrev served : List ℕ → List ℕ → ℕ → ℕ → ℕ
-served wholes ranks missing i = get_or wholes i 0 + one (ltb (get_or ranks i 0) missing)
 
 pub loop-i-init : goal.loop-i-init
 loop-i-init c = (omega arith, refl, tab_start _ _)

@@ -25,12 +25,11 @@ pub loop-i-smaller : goal.loop-i-smaller
 loop-i-smaller c = omega arith
 
 pub loop-i-preserved : goal.loop-i-preserved
-loop-i-preserved c =
-    (
-      omega arith,
-      count_more (λ k. get_or c.args.wholes.now k 0) c.loop-i.sum _ c.loop-i.i c.loop-i.invariant.1 refl,
-      omega (arith, c.requires.small c.loop-i.i c.loop-i-test.true),
-    )
+loop-i-preserved c = (
+  omega arith,
+  count_more (λ k. get_or c.args.wholes.now k 0) c.loop-i.sum _ c.loop-i.i c.loop-i.invariant.1 refl,
+  omega (arith, c.requires.small c.loop-i.i c.loop-i-test.true),
+)
 
 pub returns : goal.returns
 returns c =
