@@ -1,5 +1,5 @@
 -- Document 01, "From prices to distances": distances. Definitions only.
-use Rattle.std.specs.Prelude.{ℕ, min, max, Bool, cond, List, eqb, length, Float}
+use Rattle.std.specs.Prelude.{ℕ, min, max, cond, List, eqb, length, Float}
 use Rattle.std.specs.Float.{binary64}
 use Rattle.std.specs.Float.Ieee.{neg, sub, mul, div}
 use Rattle.arithmetic.specs.Constants.{pz, unit, two}

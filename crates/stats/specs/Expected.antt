@@ -1,9 +1,9 @@
 -- Document 01, "Sharing out": expected returns. Definitions only.
-use Rattle.std.specs.Prelude.{ℕ, zero, suc, ◌*◌, ◌-◌, Bool, cond, List, [], ◌∷◌, ◌++◌, ltb, eqb, length, Float}
+use Rattle.std.specs.Prelude.{ℕ, zero, suc, ◌-◌, cond, List, [], ◌∷◌, ◌++◌, ltb, eqb, length, Float}
 use Rattle.std.specs.Float.{binary64}
 use Rattle.std.specs.Float.Ieee.{of_bits, sub, mul, div}
 use Rattle.arithmetic.specs.Constants.{pz, unit, two}
-use Rattle.refusal.specs.Table.{Line, first}
+use Rattle.refusal.specs.Table.{first}
 use Rattle.refusal.specs.declared.Refusal.TheVariants.{ShortBuffer}
 use Rattle.refusal.specs.declared.Outcome.{Outcome}
 use Rattle.lent.specs.Grid.{cell, tab, sum_to}

@@ -1,7 +1,6 @@
 -- `clusters::any_low` meets its contract. Assumes nothing.
 use Rattle.lent.proofs.Fill.{filling}
 use mathlib.Core.Path.{sym}
-use mathlib.Core.Bool.{false}
 use native.Mathlib.Omega.{arith}
 use lib.Ieee.{le}
 use Rattle.arithmetic.specs.Constants.{pz}
@@ -14,9 +13,9 @@ loop-k-init c = (search filling, any_none _)
 
 pub own_variance-requires : goal.own_variance-requires
 own_variance-requires c = record {
-      listed_assets = (search filling).0;
-      k_in_bounds = (search filling).1;
-    }
+  listed_assets = search filling;
+  k_in_bounds = search filling;
+}
 
 pub returns-then-own_variance : goal.returns-then-own_variance
 unfolding any_listed_low

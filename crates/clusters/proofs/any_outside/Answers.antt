@@ -1,7 +1,6 @@
 -- `clusters::any_outside` meets its contract. Assumes nothing.
 use Rattle.lent.proofs.Fill.{filling}
 use mathlib.Core.Path.{sym}
-use mathlib.Core.Bool.{false}
 use native.Mathlib.Omega.{arith}
 use borrow.Author.Tests.{le-leb, lt-leb}
 use lib.Dec.{leb}

@@ -21,7 +21,7 @@ pub bounds-w-k : goal.bounds-w-k
 bounds-w-k c = omega (arith, c.requires.assets_len_bound)
 
 pub offset_bounds-expected-a : goal.offset_bounds-expected-a
-offset_bounds-expected-a c = omega (arith, c.requires.by_index c.loop-k.k (omega arith), c.before.before.before.before.well-formed.0.1)
+offset_bounds-expected-a c = omega (arith, c.requires.by_index c.loop-k.k (omega arith), c.well_formed.0.1)
 
 pub bounds-expected-a : goal.bounds-expected-a
 bounds-expected-a c = c.requires.by_index c.loop-k.k (omega arith)

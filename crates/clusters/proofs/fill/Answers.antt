@@ -14,9 +14,9 @@ loop-k-init c = (search filling, refl, tab_start _ _)
 
 pub own_variance-requires : goal.own_variance-requires
 own_variance-requires c = record {
-      listed_assets = (search filling).0;
-      k_in_bounds = (search filling).1;
-    }
+  listed_assets = search filling;
+  k_in_bounds = search filling;
+}
 
 pub settled-requires : goal.settled-requires
 settled-requires c = search filling

@@ -9,9 +9,9 @@ loop-k-init c = search filling
 
 pub own_variance-requires : goal.own_variance-requires
 own_variance-requires c = record {
-      listed_assets = (search filling).0;
-      k_in_bounds = (search filling).1;
-    }
+  listed_assets = search filling;
+  k_in_bounds = search filling;
+}
 
 pub overflow_add-k : goal.overflow_add-k
 overflow_add-k c = search filling

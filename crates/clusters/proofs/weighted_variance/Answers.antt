@@ -13,9 +13,9 @@ loop-i-init c = (search filling, sums_start _ _)
 
 pub add_row-v-requires : goal.add_row-v-requires
 add_row-v-requires c = record {
-      listed_assets = (search filling).0;
-      i_in_bounds = (search filling).1;
-    }
+  listed_assets = search filling;
+  i_in_bounds = search filling;
+}
 
 pub overflow_add-i : goal.overflow_add-i
 overflow_add-i c = search filling

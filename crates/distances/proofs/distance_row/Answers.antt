@@ -2,7 +2,6 @@
 use native.Mathlib.Omega.{arith}
 use Rattle.lent.proofs.Laws.{done_cell}
 use Rattle.lent.proofs.Fill.{filling, cells_step}
-use Rattle.distances.specs.Distances.{distance_cell}
 use Rattle.distances.proofs.distance_row.Goals as goal
 
 pub loop-j-init : goal.loop-j-init
@@ -10,12 +9,12 @@ loop-j-init c = search filling
 
 pub distance_cell-requires : goal.distance_cell-requires
 distance_cell-requires c = record {
-      corr_len = search filling;
-      i_lt_n = search filling;
-      j_lt_n = search filling;
-      n_in_bounds = search filling;
-      i_value = λ h. done_cell _ _ _ _ _ _ _ _ c.loop-j.invariant.3 h (omega arith);
-    }
+  corr_len = search filling;
+  i_lt_n = search filling;
+  j_lt_n = search filling;
+  n_in_bounds = search filling;
+  i_value = λ h. done_cell _ _ _ _ _ _ _ _ c.loop-j.invariant.3 h (omega arith);
+}
 
 pub settled-v-requires : goal.settled-v-requires
 settled-v-requires c = search filling

@@ -7,12 +7,12 @@ loop-i-init c = search filling
 
 pub fill_row-requires : goal.fill_row-requires
 fill_row-requires c = record {
-      d_len = c.requires.d_len;
-      n_bound = c.requires.n_bound;
-      i_lt_n = c.loop-i-test.true;
-      n_in_bounds = c.loop-i.invariant.1;
-      out_value = rows_keep _ _ _ _ _ _ c.loop-i.invariant.3 c.loop-i.invariant.0 c.requires.n_in_bounds;
-    }
+  d_len = c.requires.d_len;
+  n_bound = c.requires.n_bound;
+  i_lt_n = c.loop-i-test.true;
+  n_in_bounds = c.loop-i.invariant.1;
+  out_value = rows_keep _ _ _ _ _ _ c.loop-i.invariant.3 c.loop-i.invariant.0 c.requires.n_in_bounds;
+}
 
 pub overflow_add-i : goal.overflow_add-i
 overflow_add-i c = search filling

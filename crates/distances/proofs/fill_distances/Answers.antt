@@ -7,11 +7,11 @@ loop-i-init c = search filling
 
 pub distance_row-requires : goal.distance_row-requires
 distance_row-requires c = record {
-      corr_len = (search filling).0;
-      i_lt_n = (search filling).1;
-      n_in_bounds = (search filling).2;
-      out_value = (search filling).3;
-    }
+  corr_len = search filling;
+  i_lt_n = search filling;
+  n_in_bounds = search filling;
+  out_value = search filling;
+}
 
 pub overflow_add-i : goal.overflow_add-i
 overflow_add-i c = search filling

@@ -3,27 +3,26 @@ use mathlib.Core.Path.{◌∙◌}
 use native.Mathlib.Omega.{arith}
 use Rattle.lent.proofs.Laws.{done_cell}
 use Rattle.lent.proofs.Fill.{filling, cells_step}
-use Rattle.distances.specs.Distances.{between_cell}
 use Rattle.distances.proofs.Laws.{between_picked}
 use Rattle.distances.proofs.fill_row.Goals as goal
 
 pub sums_of-sums-requires : goal.sums_of-sums-requires
 sums_of-sums-requires c = record {
-      d_len = (search filling).0;
-      n_bound = (search filling).1;
-      i_lt_n = (search filling).2;
-    }
+  d_len = search filling;
+  n_bound = search filling;
+  i_lt_n = search filling;
+}
 
 pub loop-j-init : goal.loop-j-init
 loop-j-init c = search filling
 
 pub between_cell-requires : goal.between_cell-requires
 between_cell-requires c = record {
-      n_bound = (search filling).0;
-      i_lt_n = (search filling).1;
-      j_lt_n = (search filling).2;
-      n_in_bounds = (search filling).3;
-    }
+  n_bound = search filling;
+  i_lt_n = search filling;
+  j_lt_n = search filling;
+  n_in_bounds = search filling;
+}
 
 pub settled-v-requires : goal.settled-v-requires
 settled-v-requires c = search filling

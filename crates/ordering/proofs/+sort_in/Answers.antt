@@ -1,148 +1,76 @@
 -- The proof of the cycle of calls {sort_in}. The measure is the list's length, which is less in each half. What is asked of lists is in `Merging`. Assumes nothing.
-use Rattle.std.proofs.Common.{◌≡◌, ℕ, ◌-◌, ◌/◌, length, sym, ◌∙◌, arith, length-take-le, rules}
-use borrow.Fn.Kinds.{In}
-use borrow.Fn.PlainCycle.{Measures, is, falls, and}
+use Rattle.std.proofs.Common.{◌≡◌, ◌-◌, ◌/◌, length, sym, ◌∙◌, arith, length-take-le, rules}
 use Rattle.ordering.proofs.Merging.{all_doubles, half_le, first_length, second_length, both_length, sort_made}
-use Rattle.ordering.proofs.sort_in.Reads as sort-in
-use Rattle.ordering.proofs.sort_in.Kinds as sort-in-kinds
-use Rattle.ordering.proofs.+sort_in.Lts-sort_in as lts
-use Rattle.ordering.proofs.insert_each.Reads as insert-each-reads
-use Rattle.ordering.proofs.merge.Reads as merge-reads
 use Rattle.ordering.proofs.+sort_in.Goals as goal
 
+pub shape_of-xs-then-n-lt-FEW : goal.shape_of-xs-then-n-lt-FEW
+shape_of-xs-then-n-lt-FEW t c = c.insert_each.auto.xs
 
-abbrev μ : Measures 2 sort-in-kinds.ps ℕ
-μ κs a = length a.0.now
+pub returns-then-n-lt-FEW : goal.returns-then-n-lt-FEW
+returns-then-n-lt-FEW t c = c.insert_each.ensures
 
-abbrev given : ℕ → In 2 sort-in-kinds.ps
-given t = and 2 sort-in-kinds.ps (is 2 sort-in-kinds.ps μ t) sort-in.Pre
+pub slice_bounds-sort_in-end : goal.slice_bounds-sort_in-end
+slice_bounds-sort_in-end t c = half_le _
 
-abbrev calls : ℕ → lts.Claims
-calls t = (
-  insert-each-reads.Asked,
-  insert-each-reads.Learnt,
-  and 2 sort-in-kinds.ps (falls 2 sort-in-kinds.ps ◌<◌ μ t) sort-in.Pre,
-  sort-in.Post,
-  merge-reads.Asked,
-  merge-reads.Learnt,
-)
-module _ (t : ℕ) where
-  insert_each_requires : lts.Need-insert-each-requires (calls t) (given t) sort-in.Post
-  insert_each_requires c κs = tt
+pub slice_bounds-sort_in-end-2 : goal.slice_bounds-sort_in-end-2
+slice_bounds-sort_in-end-2 t c =
+    sym (length-take-le (length c.args.xs.now / 2) c.args.xs.now (half_le (length c.args.xs.now)))
 
-  same_length : lts.Need-same-length (calls t) (given t) sort-in.Post
-  same_length c = c.before.before.insert-each.auto.0
+pub sort_in-requires : goal.sort_in-requires
+sort_in-requires t c =
+    let e = length-take-le (length c.args.xs.now / 2) c.args.xs.now (half_le (length c.args.xs.now)) in
+    (omega (arith, e, c.if-n-lt-FEW.false, c.decreases), omega (arith, e, c.requires))
 
-  returns : lts.Need-returns (calls t) (given t) sort-in.Post
-  returns c = c.before.before.insert-each.ensures
+pub slice_bounds-sort_in-count : goal.slice_bounds-sort_in-count
+slice_bounds-sort_in-count t c =
+    let m = length c.args.xs.now / 2 in
+    let h = half_le (length c.args.xs.now) in
+    let np : length c.sort_in.new.xs ≡ m = c.sort_in.auto.xs ∙ length-take-le m c.args.xs.now h in
+    omega (arith, first_length c.args.xs.now c.sort_in.new.xs m h np, h)
 
-  slice_relend_prefix_sort_in : lts.Need-slice-relend-prefix-sort-in (calls t) (given t) sort-in.Post
-  slice_relend_prefix_sort_in c = half_le _
+pub slice_bounds-sort_in-start : goal.slice_bounds-sort_in-start
+slice_bounds-sort_in-start t c =
+    let m = length c.args.xs.now / 2 in
+    let h = half_le (length c.args.xs.now) in
+    let np : length c.sort_in.new.xs ≡ m = c.sort_in.auto.xs ∙ length-take-le m c.args.xs.now h in
+    omega (arith, first_length c.args.xs.now c.sort_in.new.xs m h np, h)
 
-  slice_aggregate_sort_in : lts.Need-slice-aggregate-sort-in (calls t) (given t) sort-in.Post
-  slice_aggregate_sort_in c =
-      let l = c.before.before.before.before.args.xs.now in
-      sym (length-take-le (length l / 2) l (half_le (length l)))
+pub sort_in-requires-2 : goal.sort_in-requires-2
+sort_in-requires-2 t c =
+    let m = length c.args.xs.now / 2 in
+    let h = half_le (length c.args.xs.now) in
+    let np : length c.sort_in.new.xs ≡ m = c.sort_in.auto.xs ∙ length-take-le m c.args.xs.now h in
+    let e = second_length c.args.xs.now c.sort_in.new.xs m h np in
+    (omega (arith, e, c.if-n-lt-FEW.false, c.decreases), omega (arith, e, c.requires, c.sort_in.auto.room, c.if-n-lt-FEW.false))
 
-  sort_in_requires : lts.Need-sort-in-requires (calls t) (given t) sort-in.Post
-  sort_in_requires c κs =
-      let s = c.before.before.before.before.before in
-      let l = s.args.xs.now in
-      let e = length-take-le (length l / 2) l (half_le (length l)) in
-      (omega (arith, e, c.before.before.if1.false, s.requires.0), omega (arith, e, s.requires.1))
+pub merge-requires : goal.merge-requires
+merge-requires t c =
+    let m = length c.args.xs.now / 2 in
+    let h = half_le (length c.args.xs.now) in
+    let np : length c.sort_in.new.xs ≡ m = c.sort_in.auto.xs ∙ length-take-le m c.args.xs.now h in
+    let nq : length c.sort_in-2.new.xs ≡ length c.args.xs.now - m = c.sort_in-2.auto.xs ∙ second_length c.args.xs.now c.sort_in.new.xs m h np in
+    (omega (arith, both_length c.args.xs.now c.sort_in.new.xs m h np c.sort_in-2.new.xs nq, h), omega (arith, c.requires, c.sort_in.auto.room, c.sort_in-2.auto.room))
 
-  mul_sort_in : lts.Need-overflow-mul-sort-in (calls t) (given t) sort-in.Post
-  mul_sort_in c = search rules
+pub shape_of-xs : goal.shape_of-xs
+shape_of-xs t c =
+    let m = length c.args.xs.now / 2 in
+    let h = half_le (length c.args.xs.now) in
+    let np : length c.sort_in.new.xs ≡ m = c.sort_in.auto.xs ∙ length-take-le m c.args.xs.now h in
+    let nq : length c.sort_in-2.new.xs ≡ length c.args.xs.now - m = c.sort_in-2.auto.xs ∙ second_length c.args.xs.now c.sort_in.new.xs m h np in
+    c.merge.auto.xs ∙ both_length c.args.xs.now c.sort_in.new.xs m h np c.sort_in-2.new.xs nq
 
-  sub_sort_in : lts.Need-overflow-sub-sort-in (calls t) (given t) sort-in.Post
-  sub_sort_in c =
-      let s = c.before.before.before.before.before.before.before.before.before.before in
-      let l = s.args.xs.now in
-      let m = length l / 2 in
-      let h = half_le (length l) in
-      let a = c.before.before.before.before.sort-in in
-      let p = a.new.0 in
-      let np : length p ≡ m = a.auto.0 ∙ length-take-le m l h in
-      omega (arith, first_length l p m h np, h)
+pub shape_of-room : goal.shape_of-room
+shape_of-room t c =
+    let m = length c.args.xs.now / 2 in
+    let h = half_le (length c.args.xs.now) in
+    let np : length c.sort_in.new.xs ≡ m = c.sort_in.auto.xs ∙ length-take-le m c.args.xs.now h in
+    let nq : length c.sort_in-2.new.xs ≡ length c.args.xs.now - m = c.sort_in-2.auto.xs ∙ second_length c.args.xs.now c.sort_in.new.xs m h np in
+    c.merge.auto.room ∙ c.sort_in-2.auto.room ∙ c.sort_in.auto.room
 
-  part_sort_in_start : lts.Need-slice-bounds-sort-in-start (calls t) (given t) sort-in.Post
-  part_sort_in_start c =
-      let s = c.before.before.before.before.before.before.before.before.before.before in
-      let l = s.args.xs.now in
-      let m = length l / 2 in
-      let h = half_le (length l) in
-      let a = c.before.before.before.before.sort-in in
-      let p = a.new.0 in
-      let np : length p ≡ m = a.auto.0 ∙ length-take-le m l h in
-      omega (arith, first_length l p m h np, h)
-
-  part_sort_in_end : lts.Need-slice-bounds-sort-in-end (calls t) (given t) sort-in.Post
-  part_sort_in_end c = search rules
-
-  sort_in_requires_2 : lts.Need-sort-in-requires-2 (calls t) (given t) sort-in.Post
-  sort_in_requires_2 c κs =
-      let s = c.before.before.before.before.before.before.before.before.before.before.before.before in
-      let l = s.args.xs.now in
-      let m = length l / 2 in
-      let h = half_le (length l) in
-      let a = c.before.before.before.before.before.before.sort-in in
-      let p = a.new.0 in
-      let np : length p ≡ m = a.auto.0 ∙ length-take-le m l h in
-      let e = second_length l p m h np in
-      (omega (arith, e, c.before.before.before.before.before.before.before.before.before.if1.false, s.requires.0), omega (arith, e, s.requires.1, a.auto.1.0, c.before.before.before.before.before.before.before.before.before.if1.false))
-
-  merge_requires : lts.Need-merge-requires (calls t) (given t) sort-in.Post
-  merge_requires c κs =
-      let s = c.before.before.before.before.before.before.before.before.before.before.before.before.before.before.before.before.before.before.before in
-      let l = s.args.xs.now in
-      let m = length l / 2 in
-      let h = half_le (length l) in
-      let a = c.before.before.before.before.before.before.before.before.before.before.before.before.before.sort-in in
-      let p = a.new.0 in
-      let np : length p ≡ m = a.auto.0 ∙ length-take-le m l h in
-      let d = c.before.before.before.before.before.before.sort-in2 in
-      let q = d.new.0 in
-      let nq : length q ≡ length l - m = d.auto.0 ∙ second_length l p m h np in
-      (omega (arith, both_length l p m h np q nq, h), omega (arith, s.requires.1, a.auto.1.0, d.auto.1.0))
-
-  same_length_2 : lts.Need-same-length-2 (calls t) (given t) sort-in.Post
-  same_length_2 c =
-      let s = c.before.before.before.before.before.before.before.before.before.before.before.before.before.before.before.before.before.before.before.before.before.before.before.before in
-      let l = s.args.xs.now in
-      let m = length l / 2 in
-      let h = half_le (length l) in
-      let a = c.before.before.before.before.before.before.before.before.before.before.before.before.before.before.before.before.before.before.sort-in in
-      let p = a.new.0 in
-      let np : length p ≡ m = a.auto.0 ∙ length-take-le m l h in
-      let d = c.before.before.before.before.before.before.before.before.before.before.before.sort-in2 in
-      let q = d.new.0 in
-      let nq : length q ≡ length l - m = d.auto.0 ∙ second_length l p m h np in
-      c.before.before.before.before.merge.auto.0 ∙ both_length l p m h np q nq
-
-  same_length_3 : lts.Need-same-length-3 (calls t) (given t) sort-in.Post
-  same_length_3 c =
-      let s = c.before.before.before.before.before.before.before.before.before.before.before.before.before.before.before.before.before.before.before.before.before.before.before.before in
-      let l = s.args.xs.now in
-      let m = length l / 2 in
-      let h = half_le (length l) in
-      let a = c.before.before.before.before.before.before.before.before.before.before.before.before.before.before.before.before.before.before.sort-in in
-      let p = a.new.0 in
-      let np : length p ≡ m = a.auto.0 ∙ length-take-le m l h in
-      let d = c.before.before.before.before.before.before.before.before.before.before.before.sort-in2 in
-      let q = d.new.0 in
-      let nq : length q ≡ length l - m = d.auto.0 ∙ second_length l p m h np in
-      c.before.before.before.before.merge.auto.1.1.0 ∙ d.auto.1.0 ∙ a.auto.1.0
-
-  returns_2 : lts.Need-returns-2 (calls t) (given t) sort-in.Post
-  returns_2 c =
-      let s = c.before.before.before.before.before.before.before.before.before.before.before.before.before.before.before.before.before.before.before.before.before.before.before.before in
-      let l = s.args.xs.now in
-      let m = length l / 2 in
-      let h = half_le (length l) in
-      let a = c.before.before.before.before.before.before.before.before.before.before.before.before.before.before.before.before.before.before.sort-in in
-      let p = a.new.0 in
-      let np : length p ≡ m = a.auto.0 ∙ length-take-le m l h in
-      let d = c.before.before.before.before.before.before.before.before.before.before.before.sort-in2 in
-      let q = d.new.0 in
-      let nq : length q ≡ length l - m = d.auto.0 ∙ second_length l p m h np in
-      sort_made l p m h np q nq _ (all_doubles l (λ i. c.before.before.before.before.before.before.before.before.before.before.before.before.before.before.before.before.before.before.before.before.before.before.before.slice-known.given i)) a.ensures d.ensures c.before.before.before.before.merge.ensures
+pub returns : goal.returns
+returns t c =
+    let m = length c.args.xs.now / 2 in
+    let h = half_le (length c.args.xs.now) in
+    let np : length c.sort_in.new.xs ≡ m = c.sort_in.auto.xs ∙ length-take-le m c.args.xs.now h in
+    let nq : length c.sort_in-2.new.xs ≡ length c.args.xs.now - m = c.sort_in-2.auto.xs ∙ second_length c.args.xs.now c.sort_in.new.xs m h np in
+    sort_made c.args.xs.now c.sort_in.new.xs m h np c.sort_in-2.new.xs nq _ (all_doubles c.args.xs.now (λ i. search rules)) c.sort_in.ensures c.sort_in-2.ensures c.merge.ensures

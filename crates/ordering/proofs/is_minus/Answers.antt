@@ -7,4 +7,4 @@ pub float_to_bits-result : goal.float_to_bits-result
 float_to_bits-result c = subst (λ (b : Bool). T (not b)) (sym c.requires) tt
 
 pub returns : goal.returns
-returns c = sign_bit c.args.x (subst T (sym c.well-formed.0.1) tt) c.requires
+returns c = sign_bit c.args.x (subst T (sym c.well_formed.0.1) tt) c.requires

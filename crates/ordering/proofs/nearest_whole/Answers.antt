@@ -6,9 +6,9 @@ use Rattle.ordering.proofs.nearest_whole.Goals as goal
 
 pub truncating_f64_to_u64-t-requires : goal.truncating_f64_to_u64-t-requires
 truncating_f64_to_u64-t-requires c = record {
-      lower_bound = c.requires.above;
-      upper_bound = short_fits c.args.x c.requires;
-    }
+  lower_bound = c.requires.above;
+  upper_bound = short_fits c.args.x c.requires;
+}
 
 pub half_past-half-requires : goal.half_past-half-requires
 half_past-half-requires c = let w = whole_small c.args.x c.requires in omega arith

@@ -4,6 +4,10 @@ use Rattle.ordering.specs.Nearest.{part_outcome}
 use Rattle.ordering.proofs.Parts.{part_of_lem, part_accepted, quantile_done, quantile_refused}
 use Rattle.ordering.proofs.quantile.Goals as goal
 
+-- each clause, from a proof of all
+clauses : {A B : Type 0} → A × B → record { value : A; xs_after : B }
+clauses p = record { value = p.0; xs_after = p.1 }
+
 pub quantile_in-requires : goal.quantile_in-requires
 unfolding part_outcome
 quantile_in-requires c = let p = part_accepted c.args.xs.now c.args.q (sym c.judge.ensures ∙ c.in-Done.is) in
@@ -17,17 +21,11 @@ shape_of-xs-in-Refused c = c.clear.auto.out
 
 pub returns-in-Refused : goal.returns-in-Refused
 unfolding part_outcome
-returns-in-Refused c = record {
-      value = (quantile_refused c.args.xs.now c.args.q _ _ _ c.judge.ensures c.in-Refused.is c.clear.ensures).0;
-      xs_after = (quantile_refused c.args.xs.now c.args.q _ _ _ c.judge.ensures c.in-Refused.is c.clear.ensures).1;
-    }
+returns-in-Refused c = clauses (quantile_refused c.args.xs.now c.args.q _ _ _ c.judge.ensures c.in-Refused.is c.clear.ensures)
 
 pub shape_of-xs-in-Done : goal.shape_of-xs-in-Done
 shape_of-xs-in-Done c = c.quantile_in.auto.xs
 
 pub returns-in-Done : goal.returns-in-Done
 unfolding part_outcome
-returns-in-Done c = record {
-      value = (quantile_done c.args.xs.now c.args.q _ _ _ c.judge.ensures c.in-Done.is (c.settled.ensures ∙ c.quantile_in.ensures.value) c.quantile_in.ensures.xs_after).0;
-      xs_after = (quantile_done c.args.xs.now c.args.q _ _ _ c.judge.ensures c.in-Done.is (c.settled.ensures ∙ c.quantile_in.ensures.value) c.quantile_in.ensures.xs_after).1;
-    }
+returns-in-Done c = clauses (quantile_done c.args.xs.now c.args.q _ _ _ c.judge.ensures c.in-Done.is (c.settled.ensures ∙ c.quantile_in.ensures.value) c.quantile_in.ensures.xs_after)

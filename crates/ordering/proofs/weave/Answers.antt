@@ -1,7 +1,8 @@
 -- `ordering::weave` meets its contract. Assumes nothing.
-use Rattle.std.proofs.Common.{sym, ◌∙◌, arith}
-use Rattle.ordering.proofs.Merging.{woven_start, second_in, place_in, woven_end}
+use Rattle.std.proofs.Common.{◌+◌, sym, ◌∙◌, arith}
+use Rattle.ordering.proofs.Merging.{Woven, woven_start, second_in, place_in, turn_second, turn_first, woven_end}
 use Rattle.ordering.proofs.weave.Goals as goal
+use Rattle.ordering.proofs.weave.Goals.{then-is_next, else-is_next}
 
 pub loop-i-init : goal.loop-i-init
 loop-i-init c = woven_start _ _ c.requires
@@ -48,6 +49,14 @@ pub overflow_add-k : goal.overflow_add-k
 overflow_add-k c =
     let h = place_in c.args.room.now c.args.xs.now c.loop-i.xs c.loop-i.i c.loop-i.j c.loop-i.k c.loop-i.invariant c.loop-i-test.true in
     omega (arith, h.1, c.loop-i.invariant.long)
+
+-- whichever way the branch went, one entry more is in place
+joined : (c : goal.Joined-is_next) → Woven c.args.room.now c.args.xs.now c.if-is_next.xs c.if-is_next.i c.if-is_next.j (c.loop-i.k + 1)
+joined c =
+    elim c.if-is_next.branch [
+      | then-is_next w ↦ turn_second c.args.room.now c.args.xs.now c.loop-i.xs c.loop-i.i c.loop-i.j c.loop-i.k c.loop-i.invariant c.loop-i-test.true c.if-is_next.xs c.if-is_next.i c.if-is_next.j (sym w.if-is_next.true ∙ c.is_next.ensures) w.xs-is w.i-is w.j-is
+      | else-is_next w ↦ turn_first c.args.room.now c.args.xs.now c.loop-i.xs c.loop-i.i c.loop-i.j c.loop-i.k c.loop-i.invariant c.loop-i-test.true c.if-is_next.xs c.if-is_next.i c.if-is_next.j (sym w.if-is_next.false ∙ c.is_next.ensures) w.xs-is w.i-is w.j-is
+    ]
 
 pub loop-i-smaller : goal.loop-i-smaller
 loop-i-smaller c =

@@ -7,9 +7,9 @@ use Rattle.resample.proofs.sample_row.Goals as goal
 
 pub kept_row-from-requires : goal.kept_row-from-requires
 kept_row-from-requires c = record {
-      rows_bound = (search filling).0;
-      r_bound = (search filling).1;
-    }
+  rows_bound = search filling;
+  r_bound = search filling;
+}
 
 pub loop-c-init : goal.loop-c-init
 loop-c-init c = search filling

@@ -1,7 +1,7 @@
 -- `resample::scan` meets its contract. No zero was met among the prices passed, and what is written so far are their returns. Assumes nothing.
 use Prim.Native.Nat.{ℕ, ◌+◌, ◌*◌}
 use mathlib.Core.Path.{◌≡◌, refl, sym, ap, ◌∙◌}
-use mathlib.Core.Bool.{false, true≢false}
+use mathlib.Core.Bool.{true≢false}
 use native.Mathlib.Nat.{zero-mul, add-zero}
 use native.Mathlib.Omega.{arith}
 use Rattle.lent.proofs.Laws.{cell_lt, cell_in, next_row}

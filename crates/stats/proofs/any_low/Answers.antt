@@ -1,6 +1,5 @@
 -- `stats::any_low` meets its contract. No variance passed is low. Assumes nothing.
 use mathlib.Core.Path.{sym}
-use mathlib.Core.Bool.{false}
 use lib.Ieee.{le}
 use Rattle.arithmetic.specs.Constants.{pz}
 use Rattle.lent.specs.Grid.{cell}

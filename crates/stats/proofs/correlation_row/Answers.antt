@@ -7,11 +7,11 @@ loop-j-init c = search filling
 
 pub correlation_cell-v-requires : goal.correlation_cell-v-requires
 correlation_cell-v-requires c = record {
-      whole = (search filling).0;
-      kept = (search filling).1;
-      i_lt_n = (search filling).2;
-      j_lt_n = (search filling).3;
-    }
+  whole = search filling;
+  kept = search filling;
+  i_lt_n = search filling;
+  j_lt_n = search filling;
+}
 
 pub put-requires : goal.put-requires
 put-requires c = search filling

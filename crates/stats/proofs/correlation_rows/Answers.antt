@@ -8,12 +8,12 @@ loop-i-init c = search filling
 
 pub correlation_row-requires : goal.correlation_row-requires
 correlation_row-requires c = record {
-      whole = c.requires.whole;
-      kept = c.requires.kept;
-      i_lt_n = omega arith;
-      n_in_bounds = omega arith;
-      out_value = rows_keep _ _ _ _ _ _ c.loop-i.invariant.3 c.loop-i.invariant.0 c.requires.n_in_bounds;
-    }
+  whole = c.requires.whole;
+  kept = c.requires.kept;
+  i_lt_n = omega arith;
+  n_in_bounds = omega arith;
+  out_value = rows_keep _ _ _ _ _ _ c.loop-i.invariant.3 c.loop-i.invariant.0 c.requires.n_in_bounds;
+}
 
 pub overflow_add-i : goal.overflow_add-i
 overflow_add-i c = search filling

@@ -7,21 +7,21 @@ use Rattle.stats.proofs.covariance_row.Goals as goal
 
 pub sums_of-sums-requires : goal.sums_of-sums-requires
 sums_of-sums-requires c = record {
-      whole = (search filling).0;
-      i_lt_w = (search filling).1;
-    }
+  whole = search filling;
+  i_lt_w = search filling;
+}
 
 pub loop-j-init : goal.loop-j-init
 loop-j-init c = search filling
 
 pub covariance_cell-v-requires : goal.covariance_cell-v-requires
 covariance_cell-v-requires c = record {
-      w_bound = c.requires.whole.wide;
-      le_rows = c.requires.le_rows;
-      i_lt_w = omega arith;
-      j_lt_w = omega arith;
-      w_in_bounds = omega arith;
-    }
+  w_bound = c.requires.whole.wide;
+  le_rows = c.requires.le_rows;
+  i_lt_w = omega arith;
+  j_lt_w = omega arith;
+  w_in_bounds = omega arith;
+}
 
 pub put-requires : goal.put-requires
 put-requires c = search filling

@@ -8,13 +8,13 @@ loop-i-init c = search filling
 
 pub covariance_row-requires : goal.covariance_row-requires
 covariance_row-requires c = record {
-      whole = c.requires.whole;
-      le_rows = c.requires.le_rows;
-      kept = c.requires.kept;
-      i_lt_w = omega arith;
-      w_in_bounds = omega arith;
-      out_value = rows_keep _ _ _ _ _ _ c.loop-i.invariant.3 c.loop-i.invariant.0 c.requires.w_in_bounds;
-    }
+  whole = c.requires.whole;
+  le_rows = c.requires.le_rows;
+  kept = c.requires.kept;
+  i_lt_w = omega arith;
+  w_in_bounds = omega arith;
+  out_value = rows_keep _ _ _ _ _ _ c.loop-i.invariant.3 c.loop-i.invariant.0 c.requires.w_in_bounds;
+}
 
 pub overflow_add-i : goal.overflow_add-i
 overflow_add-i c = search filling

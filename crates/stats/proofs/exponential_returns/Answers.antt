@@ -1,7 +1,6 @@
 -- `stats::exponential_returns` meets its contract. What is written so far is c entries. Assumes nothing.
 use mathlib.Core.Path.{refl, ◌∙◌}
 use Rattle.lent.proofs.Fill.{tab_step, filling}
-use Rattle.stats.specs.Expected.{exponential_return}
 use Rattle.stats.proofs.exponential_returns.Goals as goal
 
 pub loop-c-init : goal.loop-c-init
@@ -9,9 +8,9 @@ loop-c-init c = search filling
 
 pub exponential_return-requires : goal.exponential_return-requires
 exponential_return-requires c = record {
-      xs_len = (search filling).0;
-      c_lt_w = (search filling).1;
-    }
+  xs_len = search filling;
+  c_lt_w = search filling;
+}
 
 pub settled-requires : goal.settled-requires
 settled-requires c = search filling

@@ -8,9 +8,9 @@ loop-c-init c = (search filling, search filling, kept_none _ _)
 
 pub mean-requires : goal.mean-requires
 mean-requires c = record {
-      xs_len = (search filling).0;
-      c_lt_w = (search filling).1;
-    }
+  xs_len = search filling;
+  c_lt_w = search filling;
+}
 
 pub offset_bounds-m-c : goal.offset_bounds-m-c
 offset_bounds-m-c c = search filling

@@ -7,10 +7,10 @@ loop-j-init c = search filling
 
 pub shrunk_cell-v-requires : goal.shrunk_cell-v-requires
 shrunk_cell-v-requires c = record {
-      whole = (search filling).0;
-      i_lt_n = (search filling).1;
-      j_lt_n = (search filling).2;
-    }
+  whole = search filling;
+  i_lt_n = search filling;
+  j_lt_n = search filling;
+}
 
 pub put-requires : goal.put-requires
 put-requires c = search filling

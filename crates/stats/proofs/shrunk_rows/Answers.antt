@@ -7,11 +7,11 @@ loop-i-init c = search filling
 
 pub shrunk_row-requires : goal.shrunk_row-requires
 shrunk_row-requires c = record {
-      whole = (search filling).0;
-      i_lt_n = (search filling).1;
-      n_in_bounds = (search filling).2;
-      out_value = (search filling).3;
-    }
+  whole = search filling;
+  i_lt_n = search filling;
+  n_in_bounds = search filling;
+  out_value = search filling;
+}
 
 pub overflow_add-i : goal.overflow_add-i
 overflow_add-i c = search filling
