@@ -1,6 +1,6 @@
 -- What the tests of the public calls say, and what the outcomes say.
---     summary-done, summary-passes     a summary that is not refused
---     within-done, within-passes           a node's members that are not refused
+--     summary_done, summary_passes     a summary that is not refused
+--     within_done, within_passes           a node's members that are not refused
 -- and the steps of the calls.
 -- Assumes nothing.
 use mathlib.Core.Path.{◌≡◌, sym, ap, ◌∙◌}

@@ -1,6 +1,6 @@
 -- A pass from the root's row down to row 0, which gives each row's two children a number worked out from their parent's. A later row changes
 -- no node that an earlier one has used: its children's ids are below its own, and each id is a child once.
---     descent-start, descent-step, descent-end
+--     descent_start, descent_step, descent_end
 -- Assumes nothing.
 use mathlib.Core.Path.{◌≡◌, refl, sym, ap, ◌∙◌}
 use mathlib.Core.Logic.{⊎_elim}

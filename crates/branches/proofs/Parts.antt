@@ -1,8 +1,8 @@
 -- What the summary of a tree says of each node.
 --     size_is      its size is the number of its leaves
---     part-is      its leaves are the part of the leaf order that begins at its first place and has its size
---     first-is, depth_is     numbers that go from each row's node to its children as places and depths do are the places and depths
---     subtotal-fork, subtotal-all     a node's subtotal is the sum of its two children's, and the root's is the total
+--     part_is      its leaves are the part of the leaf order that begins at its first place and has its size
+--     first_is, depth_is     numbers that go from each row's node to its children as places and depths do are the places and depths
+--     subtotal_fork, subtotal_all     a node's subtotal is the sum of its two children's, and the root's is the total
 -- Assumes nothing.
 use mathlib.Core.Path.{◌≡◌, refl, sym, ap, ◌∙◌}
 use mathlib.Core.Bool.{true}

@@ -1,9 +1,9 @@
 -- The steps of the passes over the rows, in the shape of what the code asks.
---     size-leaf, size-row, size_few      a node's size from its children's
---     sizes-add, sizes-fit, measured     the pass upwards
---     entries-in, left-kept, right_kept  what a row of the pass downwards reads and writes is there
---     placing-start, placing-step, placing-end, placing-fits     its first places
---     sinking-start, sinking-step, sinking-end, sinking-fits     its depths
+--     size_leaf, size_row, size_few      a node's size from its children's
+--     sizes_add, sizes_fit, measured     the pass upwards
+--     entries_in, left_kept, right_kept  what a row of the pass downwards reads and writes is there
+--     placing_start, placing_step, placing_end, placing_fits     its first places
+--     sinking_start, sinking_step, sinking_end, sinking_fits     its depths
 -- Assumes nothing.
 use mathlib.Core.Path.{◌≡◌, sym, ap, subst, ◌∙◌}
 use mathlib.Core.List.{List}

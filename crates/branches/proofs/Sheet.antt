@@ -1,12 +1,12 @@
 -- The summary, row by row, and what a sheet of subtotals rests on.
---     first-left, first-right, depth-left, depth-right     a row's children from its node
---     first-root, depth-root, lines_are      the root's numbers, and that each line of a sheet has its own node's
+--     first_left, first_right, depth_left, depth_right     a row's children from its node
+--     first_root, depth_root, lines_are      the root's numbers, and that each line of a sheet has its own node's
 --     first_fits         a node's part lies within the leaf order
---     depth-few          fewer than n nodes are above a node
---     members-done, members-are     the lookup, given the lists that `summarize` leaves and the order that `quasi_diagonalization` leaves, answers every node's leaves
---     filled_at, looked-up          an entry of such a list, and the lookup in two of them
---     part-subtotal, total-is       a branch's subtotal is the sum of its two children's, and the root's is the total
---     branches-count     the sheet has 2n − 1 lines
+--     depth_few          fewer than n nodes are above a node
+--     members_done, members_are     the lookup, given the lists that `summarize` leaves and the order that `quasi_diagonalization` leaves, answers every node's leaves
+--     filled_at, looked_up          an entry of such a list, and the lookup in two of them
+--     part_subtotal, total_is       a branch's subtotal is the sum of its two children's, and the root's is the total
+--     branches_count     the sheet has 2n − 1 lines
 -- Assumes nothing.
 use mathlib.Core.Path.{◌≡◌, refl, sym, ap, subst, ◌∙◌}
 use mathlib.Core.List.{List, [], ◌∷◌, ◌++◌}

@@ -1,5 +1,5 @@
 -- The nodes of a tree, from the root down: what holds of the root, and goes from a node to its two children, holds of each.
---     find-each      what holds of every node of a list holds of the one that is found
+--     find_each      what holds of every node of a list holds of the one that is found
 --     all_there      each node 0 to 2n − 2 is in the list
 -- Assumes nothing.
 use mathlib.Core.Path.{◌≡◌, refl, ap, subst}

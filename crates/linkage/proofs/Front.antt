@@ -1,6 +1,6 @@
 -- The code keeps 64 slots and the definition n: the n first are all that a step reads, so that the steps are the same. Assumes nothing.
-use Prim.Native.Nat.{ℕ, zero, suc, ◌+◌, ◌-◌, ◌*◌, ◌≤◌, ◌<◌, zero-le}
-use mathlib.Core.Path.{◌≡◌, refl, sym, ap, ap₂, subst, ◌∙◌}
+use Prim.Native.Nat.{ℕ, zero, suc, ◌+◌, ◌*◌, ◌≤◌, ◌<◌, zero-le}
+use mathlib.Core.Path.{◌≡◌, refl, sym, ap, subst, ◌∙◌}
 use mathlib.Core.Logic.{⊎_elim}
 use mathlib.Core.Bool.{Bool, true, false, cond}
 use mathlib.Core.List.{List, [], ◌∷◌, ◌++◌}
@@ -11,13 +11,13 @@ use lib.ListN.{length, get_or, set, replicate, length-set, length-replicate, get
 use lib.Seq.{get_or-set_same, get_or-set_other}
 use lib.Ieee.{Float, nan}
 use Rattle.arithmetic.specs.Constants.{unit}
-use Rattle.lent.specs.Grid.{cell, tab, zeros}
+use Rattle.lent.specs.Grid.{zeros}
 use Rattle.lent.specs.Range.{range}
 use Rattle.lent.proofs.Laws.{same_or_not, length_tab, get_d_tab}
 use Rattle.lent.proofs.Range.{range_none, range_more, range_same}
 use Rattle.linkage.specs.declared.Linkage.{Linkage}
 use Rattle.pairing.specs.declared.Best.{Best}
-use Rattle.linkage.specs.Merge.{State, nothing, look, scan_row, scan_from, scan_all, movable, moved, moved_all, merged, step, copied, start, state_at, merge_rows}
+use Rattle.linkage.specs.Merge.{State, nothing, look, scan_row, scan_from, scan_all, movable, moved, moved_all, merged, step, copied, start}
 use Rattle.linkage.specs.Inner.{state, numbered}
 use Rattle.linkage.proofs.Scan.{In, scan_in}
 

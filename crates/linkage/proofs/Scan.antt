@@ -1,6 +1,6 @@
 -- What the scan gives: slots below n, and, where two slots are live, a pair of live ones with their ids. Assumes nothing.
 use Prim.Native.Nat.{ℕ, ◌+◌, ◌<◌, zero-le, min, max}
-use mathlib.Core.Path.{◌≡◌, refl, sym, subst, ◌∙◌}
+use mathlib.Core.Path.{◌≡◌, refl, sym, ◌∙◌}
 use mathlib.Core.Bool.{Bool, true, false, not, ◌||◌, cond, false≢true}
 use mathlib.Core.List.{List}
 use native.Mathlib.Omega.{arith}

@@ -1,7 +1,7 @@
 -- The arrays show the states of specs/Merge.antt: at the start, and after each step. Assumes nothing.
-use Prim.Native.Nat.{ℕ, ◌+◌, ◌-◌, ◌*◌, ◌≤◌, ◌<◌, zero-le}
+use Prim.Native.Nat.{ℕ, ◌+◌, ◌-◌, ◌*◌, ◌≤◌, zero-le}
 use mathlib.Core.Path.{◌≡◌, refl, sym, ap, ◌∙◌, subst}
-use mathlib.Core.Bool.{Bool, true, false}
+use mathlib.Core.Bool.{Bool, false}
 use mathlib.Core.List.{List, [], ◌∷◌, ◌++◌}
 use native.Mathlib.Nat.{le_refl}
 use native.Mathlib.Omega.{arith}
@@ -22,7 +22,7 @@ use Rattle.linkage.specs.declared.Linkage.{Linkage}
 use Rattle.linkage.specs.Merge.{State, scan_all, moved_all, merged, step, copied, start, state_at}
 use Rattle.linkage.specs.Inner.{state, numbered, meet_all, drawn_at, Stands}
 use Rattle.linkage.proofs.Scan.{Good, scan_good}
-use Rattle.linkage.proofs.Rows.{lost, find_two, state_inv}
+use Rattle.linkage.proofs.Rows.{lost, find_two}
 use Rattle.linkage.proofs.Front.{Front, step_front, start_front, live_front}
 use Rattle.linkage.proofs.Packed.{scan_packed, moved_packed, packed_start}
 use Rattle.linkage.proofs.Forms.{scan_same, holds_moved}

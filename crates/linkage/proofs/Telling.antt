@@ -11,9 +11,7 @@ use Rattle.refusal.specs.declared.Refusal.TheVariants.{UnknownDistance, UnknownL
 use Rattle.linkage.specs.declared.Distance.TheVariants.{Correlation, DistanceOfDistances}
 use Rattle.linkage.specs.declared.Linkage.TheVariants.{Single, Complete, Average, Ward}
 use Rattle.linkage.specs.declared.NamedDistance.{NamedDistance}
-use Rattle.linkage.specs.declared.NamedDistance.TheVariants as distance
 use Rattle.linkage.specs.declared.NamedLinkage.{NamedLinkage}
-use Rattle.linkage.specs.declared.NamedLinkage.TheVariants as linkage
 use Rattle.linkage.specs.Children.{joined_of, joined_tells}
 use Rattle.linkage.specs.Names.{distance_named, linkage_named, distance_tells, linkage_tells}
 

@@ -3,24 +3,23 @@
 use Prim.Native.Nat.{ℕ, zero, suc, ◌+◌, ◌-◌, ◌*◌, ◌^◌, ◌<◌, ◌≤◌}
 use mathlib.Core.Path.{◌≡◌, refl, sym, ap, subst, ◌∙◌}
 use mathlib.Core.Logic.{◌⊎◌, inl, inr, ⊎_elim}
-use mathlib.Core.Bool.{Bool, true, false, not, ◌&&◌, ◌||◌, cond, false≢true, true≢false}
-use native.Mathlib.Nat.{mul-pos, mul_comm, mul_assoc, mul_right_comm, mul_left_comm, mul-le-mul_right, add-mul, zero-lt-suc}
+use mathlib.Core.Bool.{Bool, true, false, ◌&&◌, cond, true≢false}
+use native.Mathlib.Nat.{mul-pos, mul_assoc, mul_right_comm, mul-le-mul_right, add-mul, zero-lt-suc}
 use native.Mathlib.Omega.{arith}
 use borrow.Author.Tests.{lt-ltb, le-ltb, ltb-true, ltb-false}
 use lib.IntN.{ℤ}
-use lib.Dec.{T, ltb, leb, leb→le}
+use lib.Dec.{T, ltb, leb→le}
 use lib.Pow.{pow_pos}
 use lib.Ieee.{Float, nan, inf, fin, binary64, prec, emax, low, up, down, odd, units, round, sum, neg, add, sub, lt, le, eq, fits, of_bits}
-use lib.Ieee.Bits.{is_true}
 use lib.Ieee.Fits.{up_pos, down_pos, round_is}
 use lib.Ieee.Exact.{HasValue, odd_sign, round_exact}
 use lib.Ieee.Order.{transfer, round_mono}
-use Rattle.arithmetic.specs.Exact.{units_of, Plain}
+use Rattle.arithmetic.specs.Exact.{units_of}
 use Rattle.arithmetic.proofs.Facts.{truth}
-use Rattle.arithmetic.proofs.Units.{Digits, digits_of_lem, exact, plainly, units_below}
+use Rattle.arithmetic.proofs.Units.{digits_of_lem, exact, plainly, units_below}
 use Rattle.arithmetic.proofs.Order.{lt_at, le_at}
 use Rattle.lent.proofs.Laws.{either}
-use Rattle.pairing.specs.Pairing.{near, eps}
+use Rattle.pairing.specs.Pairing.{eps}
 use Rattle.pairing.specs.Inner.{Far}
 use Rattle.pairing.proofs.Near.{near_is}
 

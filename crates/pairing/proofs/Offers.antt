@@ -1,10 +1,10 @@
 -- What an offered pair does to the best. Assumes nothing.
-use Prim.Native.Nat.{ℕ, ◌<◌, min, max}
+use Prim.Native.Nat.{ℕ}
 use mathlib.Core.Path.{◌≡◌, refl}
-use mathlib.Core.Bool.{Bool, true, false, cond}
+use mathlib.Core.Bool.{true}
 use lib.Ieee.{Float}
 use Rattle.pairing.specs.declared.Best.{Best}
-use Rattle.pairing.specs.Pairing.{pair, better, offer}
+use Rattle.pairing.specs.Pairing.{better, offer}
 use Rattle.pairing.specs.Inner.{Far}
 
 -- a pair too far off changes nothing

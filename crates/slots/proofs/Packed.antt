@@ -7,8 +7,8 @@ use mathlib.Core.List.{List, [], ◌∷◌, ◌++◌, append-nil}
 use native.Mathlib.Nat.{eq-or-lt_of_le, le_of_suc-le-suc, add-zero}
 use native.Mathlib.Numerals.{add-one}
 use native.Mathlib.Omega.{arith}
-use lib.ListN.{length, get_or, set, take, replicate, length-append, get_or-replicate, get_or-append}
-use lib.Seq.{get_or-take, get_or-set_same, get_or-set_other, get_or-append_seam, length-take-le, take-suc}
+use lib.ListN.{length, get_or, set, take, length-append, get_or-append}
+use lib.Seq.{get_or-take, get_or-set_same, get_or-set_other, get_or-append_seam, length-take-le}
 use lib.Dec.{eqb}
 use borrow.Author.Tests.{eq-eqb, ne_eqb}
 use Rattle.lent.specs.Count.{one, upto}

@@ -1,6 +1,6 @@
 -- What the outcomes of the public calls say.
---     order-done, order-passes, order-answered, order-laid    a leaf order that is not refused
---     seriate-done, seriate-passes                            a seriated matrix that is not refused
+--     order_done, order_passes, order_answered, order_laid_lem    a leaf order that is not refused
+--     seriate_done, seriate_passes                            a seriated matrix that is not refused
 -- and the steps of the two calls.
 -- Assumes nothing.
 use mathlib.Core.Path.{◌≡◌, sym, ap, ◌∙◌}
@@ -17,7 +17,7 @@ use Rattle.refusal.specs.declared.Refusal.{Refusal}
 use Rattle.refusal.specs.declared.Refusal.TheVariants.{NoTree}
 use Rattle.refusal.specs.declared.Outcome.{Outcome}
 use Rattle.refusal.specs.declared.Outcome.TheVariants.{Done, Refused}
-use Rattle.refusal.proofs.Tables.{none, table_end, table_pass, first_append, first_done, parts_done}
+use Rattle.refusal.proofs.Tables.{none, table_end, table_pass, first_done, parts_done}
 use Rattle.lent.specs.Grid.{grid, zeros, noughts, over}
 use Rattle.lent.specs.Lent.{squares, laid, answer_of}
 use Rattle.lent.specs.declared.Answer.TheVariants.{Matrix}

@@ -1,7 +1,7 @@
 -- The leaves of a tree are each asset once. Counting: what a row's node holds is what its two children hold, and every node but the
 -- last is a child once, so that the last node holds what the assets hold together.
---     leaves-few, leaves-low              a node's leaves are at most n, and each is an asset
---     order-size, order-each, order_is    the last node's are n, each asset once
+--     leaves_few, leaves_low              a node's leaves are at most n, and each is an asset
+--     order_size, order_each, order_is    the last node's are n, each asset once
 -- Assumes nothing.
 use mathlib.Core.Path.{◌≡◌, refl, ◌∙◌}
 use mathlib.Core.Bool.{true}

@@ -1,10 +1,10 @@
 -- What a passed test of merge rows, and of an order, says of them.
---     is-tree, tree-holds      is_tree and its record
---     is-order, order-holds    `is_order` and its record
+--     is_tree_lem, tree_holds      is_tree and its record
+--     is_order_lem, order_holds    `is_order` and its record
 -- and the steps of the loops that test them: `count`, `below` and `once` at what is left.
 -- Assumes nothing.
 use mathlib.Core.Path.{◌≡◌, refl, sym, ap, ◌∙◌}
-use mathlib.Core.Bool.{Bool, true, false, ◌&&◌}
+use mathlib.Core.Bool.{true, false, ◌&&◌}
 use mathlib.Core.Logic.{⊎_elim}
 use mathlib.Core.List.{List, [], ◌∷◌}
 use Prim.Native.Nat.{ℕ, zero, suc, ◌+◌, ◌-◌, ◌*◌, ◌/◌, ◌%◌, ◌≤◌, ◌<◌}

@@ -1,7 +1,7 @@
 -- The tree at a node is its two children's. No proof but these looks at the depth that `grow` counts.
---     tree-leaf, tree-fork     the tree at an asset, and at a row's node
---     node-ind                 what holds of the assets, and of a row's node where it holds of its children, holds of every node
---     row_fits, left-falls, right-falls, on-left, on-right     what a step down from a node v asks
+--     tree_leaf, tree_fork     the tree at an asset, and at a row's node
+--     node_ind                 what holds of the assets, and of a row's node where it holds of its children, holds of every node
+--     row_fits, left_falls, right_falls, on_left, on_right     what a step down from a node v asks
 -- Assumes nothing.
 use mathlib.Core.Path.{◌≡◌, refl, ap₂}
 use mathlib.Core.Bool.{Bool, true, false}

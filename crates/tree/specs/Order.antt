@@ -1,5 +1,5 @@
 -- Document 01, "Tree and leaf order": what the public calls answer and leave in their buffers. Definitions only.
-use Rattle.std.specs.Prelude.{ℕ, ◌-◌, ◌*◌, Bool, not, List, [], ◌∷◌, ◌++◌, ltb, eqb, length, get_or, Float}
+use Rattle.std.specs.Prelude.{ℕ, ◌-◌, ◌*◌, not, List, [], ◌∷◌, ◌++◌, ltb, eqb, length, get_or, Float}
 use Rattle.arithmetic.specs.Constants.{pz}
 use Rattle.refusal.specs.Table.{Line, first}
 use Rattle.refusal.specs.declared.Refusal.TheVariants.{NoData, OverLimit, ShortBuffer, NoTree}

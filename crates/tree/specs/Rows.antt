@@ -1,5 +1,5 @@
 -- Document 01, "Tree and leaf order": when merge rows are a tree. Rows are a flat list: row k is the entries 2k and 2k + 1. Definitions only.
-use Rattle.std.specs.Prelude.{ℕ, zero, suc, ◌+◌, ◌-◌, ◌*◌, ◌/◌, Bool, true, false, ◌&&◌, List, [], ◌∷◌, ltb, eqb, length}
+use Rattle.std.specs.Prelude.{ℕ, zero, suc, ◌+◌, ◌-◌, ◌*◌, ◌/◌, Bool, true, ◌&&◌, List, [], ◌∷◌, ltb, eqb, length}
 use Rattle.lent.specs.Count.{count}
 
 -- "row k names only ids below n + k": the first entry of the list stands at place i

@@ -59,6 +59,6 @@ shape_of-depths c = c.loop-k.invariant.1.same
 
 pub returns : goal.returns
 returns c = record {
-      firsts_after = placing_end c.requires.measured c.requires.emptied c.loop-k.invariant.0 c.loop-k-test.false;
-      depths_after = sinking_end c.requires.measured.rooted c.requires.emptied_2 c.loop-k.invariant.1 c.loop-k-test.false;
-    }
+  firsts_after = placing_end c.requires.measured c.requires.emptied c.loop-k.invariant.0 c.loop-k-test.false;
+  depths_after = sinking_end c.requires.measured.rooted c.requires.emptied_2 c.loop-k.invariant.1 c.loop-k-test.false;
+}

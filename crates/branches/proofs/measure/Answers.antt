@@ -10,9 +10,9 @@ loop-v-init c = (omega arith, tab_start _ _)
 
 pub size_at-s-requires : goal.size_at-s-requires
 size_at-s-requires c = record {
-      measured = measured c.requires.rooted _ _ _ c.loop-v.invariant.1 (omega arith) c.requires.n_in_bounds;
-      v_bound = omega arith;
-    }
+  measured = measured c.requires.rooted _ _ _ c.loop-v.invariant.1 (omega arith) c.requires.n_in_bounds;
+  v_bound = omega arith;
+}
 
 pub offset_bounds-sizes-v : goal.offset_bounds-sizes-v
 offset_bounds-sizes-v c = omega (arith, measure_same _ _ _ _ _ c.loop-v.invariant.1 (omega arith) c.requires.n_in_bounds)

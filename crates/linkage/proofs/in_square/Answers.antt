@@ -15,11 +15,11 @@ pub fill-requires : goal.fill-requires
 fill-requires c = omega (arith, square_in c.args.n c.requires.0, c.requires.1)
 
 pub slice_bounds-steps-end : goal.slice_bounds-steps-end
-slice_bounds-steps-end c = sym (start_square c.args.n c.args.xs.now _ c.requires.0 c.type_inv.d.ensures).0
+slice_bounds-steps-end c = sym (start_square c.args.n c.args.xs.now _ c.requires.0 c.fill.ensures).0
 
 pub steps-requires : goal.steps-requires
 steps-requires c =
-    (c.requires.0, (start_square c.args.n c.args.xs.now _ c.requires.0 c.type_inv.d.ensures).1, c.requires.2)
+    (c.requires.0, (start_square c.args.n c.args.xs.now _ c.requires.0 c.fill.ensures).1, c.requires.2)
 
 pub returns : goal.returns
 returns c =

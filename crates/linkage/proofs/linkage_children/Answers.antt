@@ -21,9 +21,7 @@ unfolding joined_of children_answer children_rows children_outcome
 returns-in-Done c = let e = sym c.judge-said.ensures ∙ c.in-Done.is in
     let made = merge_rows c.args.method c.args.columns c.args.distance.now in record {
       value = rw (e, c.merges.ensures, c.merge_rows-pairs.ensures.1) refl;
-      out_after = (
-      c.merge_rows-pairs.ensures.0 ∙ ap (λ (l : List ℕ). over made l) c.clear_numbers.ensures ∙ laid_done 0 _ (length c.args.out.now) made e,
-    );
+      out_after = c.merge_rows-pairs.ensures.0 ∙ ap (λ (l : List ℕ). over made l) c.clear_numbers.ensures ∙ laid_done 0 _ (length c.args.out.now) made e;
     }
 
 pub returns-in-Refused : goal.returns-in-Refused

@@ -1,6 +1,5 @@
 -- `linkage::next_near` meets its contract. The invariant: those before j are too far off. Assumes nothing.
 use borrow.Author.Rules.{rules}
-use borrow.Author.Tests.{not-false}
 use native.Mathlib.Omega.{arith}
 use native.Mathlib.Nat.{le_antisymm}
 use Prim.Native.Nat.{◌+◌}
@@ -35,7 +34,7 @@ pub overflow_add-result : goal.overflow_add-result
 overflow_add-result c = omega arith
 
 pub returns-then-not-is_far_at-2 : goal.returns-then-not-is_far_at-2
-returns-then-not-is_far_at-2 c = (omega (arith, c.loop-j.invariant.0), omega arith, one c)
+returns-then-not-is_far_at-2 c = (omega (arith, c.loop-j.invariant.0), omega arith, far_more c.args.row.now c.args.slots.now c.args.limit c.args.from c.loop-j.j c.loop-j.invariant.2 (c.is_far_at.ensures c.if-not-is_far_at.false))
 
 pub overflow_add-j-in-loop-j-2 : goal.overflow_add-j-in-loop-j-2
 overflow_add-j-in-loop-j-2 c = omega arith
@@ -48,7 +47,7 @@ loop-j-preserved c =
     let e : c.loop-j.j + 1 + 1 ≡ c.loop-j.j + 2 = omega arith in (
       omega (arith, c.loop-j.invariant.0),
       omega arith,
-      subst (FarTo c.args.row.now c.args.slots.now c.args.limit c.args.from) e (far_more c.args.row.now c.args.slots.now c.args.limit c.args.from (c.loop-j.j + 1) (one c) (c.is_far_at-in-loop-j.ensures (not-false _ c.if-not-is_far_at-2.false))),
+      subst (FarTo c.args.row.now c.args.slots.now c.args.limit c.args.from) e (far_more c.args.row.now c.args.slots.now c.args.limit c.args.from (c.loop-j.j + 1) (far_more c.args.row.now c.args.slots.now c.args.limit c.args.from c.loop-j.j c.loop-j.invariant.2 (c.is_far_at.ensures c.if-not-is_far_at.false)) (c.is_far_at-in-loop-j.ensures c.if-not-is_far_at-2.false)),
     )
 
 pub is_far_at-requires-then-j-m : goal.is_far_at-requires-then-j-m
@@ -64,7 +63,7 @@ returns-else-not-is_far_at-3 c =
     let e : c.loop-j.j + 1 ≡ c.args.m = omega (arith, c.if-j-m.true, c.loop-j-test.false) in (
       omega (arith, c.loop-j.invariant.0),
       omega arith,
-      subst (FarTo c.args.row.now c.args.slots.now c.args.limit c.args.from) e (far_more c.args.row.now c.args.slots.now c.args.limit c.args.from c.loop-j.j c.loop-j.invariant.2 (c.is_far_at-then-j-m.ensures (not-false _ c.if-not-is_far_at-3.false))),
+      subst (FarTo c.args.row.now c.args.slots.now c.args.limit c.args.from) e (far_more c.args.row.now c.args.slots.now c.args.limit c.args.from c.loop-j.j c.loop-j.invariant.2 (c.is_far_at-then-j-m.ensures c.if-not-is_far_at-3.false)),
     )
 
 pub returns-else-j-m : goal.returns-else-j-m

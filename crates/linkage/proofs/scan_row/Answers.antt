@@ -30,7 +30,7 @@ pub bounds-shifts-a : goal.bounds-shifts-a
 bounds-shifts-a c = omega (arith, c.requires.5 c.args.i c.requires.3)
 
 pub offset_bounds-d-shift : goal.offset_bounds-d-shift
-offset_bounds-d-shift c = omega (arith, shift_in c.args.form c.args.n (get_or c.args.slots.now c.args.i 0) c.args.shifts.now (length c.args.d.now) (c.requires.5 c.args.i c.requires.3) c.requires.7 c.requires.8, s.well-formed)
+offset_bounds-d-shift c = omega (arith, shift_in c.args.form c.args.n (get_or c.args.slots.now c.args.i 0) c.args.shifts.now (length c.args.d.now) (c.requires.5 c.args.i c.requires.3) c.requires.7 c.requires.8, c.well_formed)
 
 pub slice_bounds-row-count : goal.slice_bounds-row-count
 slice_bounds-row-count c = omega (arith, shift_in c.args.form c.args.n (get_or c.args.slots.now c.args.i 0) c.args.shifts.now (length c.args.d.now) (c.requires.5 c.args.i c.requires.3) c.requires.7 c.requires.8)

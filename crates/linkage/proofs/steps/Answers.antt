@@ -15,16 +15,15 @@ use Rattle.linkage.proofs.Stepped.{shown_start, shown_below, shown_rising, shown
 use Rattle.linkage.proofs.steps.Goals as goal
 
 pub loop-k-init : goal.loop-k-init
-loop-k-init c =
-    (
-      search rules,
-      refl,
-      ap length c.type_inv.slots.ensures ∙ (numbered_at c.args.n c.requires.0).0,
-      shown_start c.args.method c.args.form c.args.n c.args.xs.now _ _ _ _ c.args.rows.now c.requires.0 c.requires.1 c.type_inv.ids.ensures c.type_inv.slots.ensures refl,
-      refl,
-      sym (pairs_none c.args.method c.args.n c.args.xs.now),
-      refl,
-    )
+loop-k-init c = (
+  search rules,
+  refl,
+  ap length c.number-2.ensures ∙ (numbered_at c.args.n c.requires.0).0,
+  shown_start c.args.method c.args.form c.args.n c.args.xs.now _ _ _ _ c.args.rows.now c.requires.0 c.requires.1 c.number.ensures c.number-2.ensures refl,
+  refl,
+  sym (pairs_none c.args.method c.args.n c.args.xs.now),
+  refl,
+)
 
 pub overflow_sub-n : goal.overflow_sub-n
 overflow_sub-n c = omega (arith, c.merges-k-end.ensures, c.loop-k-test.true, c.loop-k.invariant.0)
@@ -40,7 +39,7 @@ step_once-pairs-requires c =
       shown_rising c.args.method c.args.form c.args.n c.loop-k.k c.args.xs.now c.loop-k.d c.loop-k.ids c.loop-k.slots c.loop-k.sizes (take (2 * c.loop-k.k) c.loop-k.rows) c.requires.0 (omega arith) c.loop-k.invariant.2 c.loop-k.invariant.3,
       c.loop-k.invariant.2,
       omega (arith, c.requires.2, c.loop-k.invariant.1, b),
-      shifted_lined c.args.form c.args.n _ _ c.requires.0 refl c.type_inv.shifts.ensures,
+      shifted_lined c.args.form c.args.n _ _ c.requires.0 refl c.shifts.ensures,
       c.loop-k.invariant.3.held.room,
     )
 

@@ -6,6 +6,6 @@ use Rattle.pairing.proofs.is_far.Goals as goal
 
 pub returns : goal.returns
 returns c = record {
-      value = refl;
-      far = (λ e. far c.args.x c.args.y c.well-formed.1.0.1 (not-true _ e));
-    }
+  value = refl;
+  far = (λ e. far c.args.x c.args.y c.well_formed.1.0.1 (not-true _ e));
+}

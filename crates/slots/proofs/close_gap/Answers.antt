@@ -2,10 +2,10 @@
 use borrow.Author.Rules.{rules}
 use native.Mathlib.Omega.{arith}
 use native.Mathlib.Nat.{min-le_right}
-use mathlib.Core.Logic.{⊎_elim}
 use lib.ListN.{length}
 use Rattle.slots.proofs.Gap.{gap_start, gap_goes, gap_stays, gap_end, gap_length}
 use Rattle.slots.proofs.close_gap.Goals as goal
+use Rattle.slots.proofs.close_gap.Goals.{then-s-y, else-s-y}
 
 pub loop-j-init : goal.loop-j-init
 loop-j-init c = (search rules, omega (arith, c.smaller-end.ensures, min-le_right c.args.m (length c.args.slots.now)), gap_start _ _)
@@ -28,15 +28,14 @@ pub loop-j-smaller : goal.loop-j-smaller
 loop-j-smaller c = omega arith
 
 pub loop-j-preserved : goal.loop-j-preserved
-loop-j-preserved c =
-    (
-      omega arith,
-      c.loop-j.invariant.1,
-      ⊎_elim
-          (λ w. rw (w.1, w.2) (gap_stays c.args.slots.now c.args.y c.loop-j.j c.loop-j.slots c.loop-j.w (omega arith) c.loop-j.invariant.2 w.0.taken))
-          (λ w. rw (w.1, w.2) (gap_goes c.args.slots.now c.args.y c.loop-j.j c.loop-j.slots c.loop-j.w (omega arith) c.loop-j.invariant.2 w.0.left))
-          c.if-s-y.branch,
-    )
+loop-j-preserved c = (
+  omega arith,
+  c.loop-j.invariant.1,
+  elim c.if-s-y.branch [
+    | then-s-y w ↦ rw (w.slots-is, w.w-is) (gap_stays c.args.slots.now c.args.y c.loop-j.j c.loop-j.slots c.loop-j.w (omega arith) c.loop-j.invariant.2 w.if-s-y.true)
+    | else-s-y w ↦ rw (w.slots-is, w.w-is) (gap_goes c.args.slots.now c.args.y c.loop-j.j c.loop-j.slots c.loop-j.w (omega arith) c.loop-j.invariant.2 w.if-s-y.false)
+  ],
+)
 
 pub shape_of-slots : goal.shape_of-slots
 shape_of-slots c =

@@ -1,114 +1,62 @@
 -- The proof of the cycle of calls {leaves}. The measure is the node's id, which is less at each child. What is asked of lists is in `Walk`.
-use Prim.Native.Nat.{ℕ}
 use native.Mathlib.Omega.{arith}
-use borrow.Author.Rules.{rules}
-use borrow.Fn.Kinds.{In}
-use borrow.Fn.PlainCycle.{Measures, is, falls, and}
 use Rattle.tree.proofs.Tree.{row_fits, left_falls, right_falls}
 use Rattle.tree.proofs.Walk.{room_leaf, wrote_leaf, ready_left, mid_size, left_fits, ready_right, wrote_fork, kept_fork, total_fits}
-use Rattle.tree.proofs.leaves.Reads as leaves
-use Rattle.tree.proofs.leaves.Kinds as leaves-kinds
-use Rattle.tree.proofs.+leaves.Lts-leaves as lts
-use Rattle.tree.proofs.give.Reads as give-reads
 use Rattle.tree.proofs.+leaves.Goals as goal
 
--- Assumes nothing.
+pub give-requires : goal.give-requires
+give-requires t c = room_leaf c.requires c.if-at-n.true
 
-abbrev μ : Measures 2 leaves-kinds.ps ℕ
-μ κs a = a.1.1.0.0
+pub returns-then-at-n : goal.returns-then-at-n
+returns-then-at-n t c = wrote_leaf _ _ _ _ _ c.if-at-n.true c.give.ensures
 
--- what is given at the measure t; and what a call asks below t, with what it gives
-abbrev given : ℕ → In 2 leaves-kinds.ps
-given t = and 2 leaves-kinds.ps (is 2 leaves-kinds.ps μ t) leaves.Pre
+pub overflow_mul-left : goal.overflow_mul-left
+overflow_mul-left t c = omega (arith, row_fits c.requires.on c.if-at-n.false)
 
-abbrev calls : ℕ → lts.Claims
-calls t = (
-  give-reads.Asked,
-  give-reads.Learnt,
-  and 2 leaves-kinds.ps (falls 2 leaves-kinds.ps ◌<◌ μ t) leaves.Pre,
-  leaves.Post,
-)
-module _ (t : ℕ) where
-  -- at an asset
+pub offset_bounds-rows-k : goal.offset_bounds-rows-k
+offset_bounds-rows-k t c = omega (arith, row_fits c.requires.on c.if-at-n.false)
 
-  give_requires : lts.Need-give-requires (calls t) (given t) leaves.Post
-  give_requires c κs = room_leaf c.before.before.before.before.requires.1 c.before.if1.true
+pub bounds-rows-k : goal.bounds-rows-k
+bounds-rows-k t c = omega (arith, row_fits c.requires.on c.if-at-n.false)
 
-  same_length : lts.Need-same-length (calls t) (given t) leaves.Post
-  same_length c = search rules
+pub overflow_mul-right : goal.overflow_mul-right
+overflow_mul-right t c = omega (arith, row_fits c.requires.on c.if-at-n.false)
 
-  returns : lts.Need-returns (calls t) (given t) leaves.Post
-  returns c = wrote_leaf _ _ _ _ _ c.before.before.before.before.if1.true c.before.before.give.ensures
+pub overflow_add-right : goal.overflow_add-right
+overflow_add-right t c = omega (arith, row_fits c.requires.on c.if-at-n.false)
 
-  -- at a row's node: its two entries, within a slice whose length fits
+pub offset_bounds-rows-k-2 : goal.offset_bounds-rows-k-2
+offset_bounds-rows-k-2 t c = omega (arith, row_fits c.requires.on c.if-at-n.false)
 
-  mul_left : lts.Need-overflow-mul-left (calls t) (given t) leaves.Post
-  mul_left c = omega (arith, row_fits c.before.before.before.requires.1.on c.if1.false)
+pub bounds-rows-k-2 : goal.bounds-rows-k-2
+bounds-rows-k-2 t c = row_fits c.requires.on c.if-at-n.false
 
-  mul_left_2 : lts.Need-overflow-mul-left-2 (calls t) (given t) leaves.Post
-  mul_left_2 c = omega (arith, row_fits c.before.before.before.requires.1.on c.if1.false)
+pub leaves-l-requires : goal.leaves-l-requires
+leaves-l-requires t c =
+    (omega (arith, left_falls c.requires.on c.if-at-n.false), ready_left c.requires c.if-at-n.false)
 
-  shared_slice_read_left : lts.Need-shared-slice-read-left (calls t) (given t) leaves.Post
-  shared_slice_read_left c = omega (arith, row_fits c.before.before.before.before.requires.1.on c.before.if1.false)
+pub offset_bounds-out-l : goal.offset_bounds-out-l
+offset_bounds-out-l t c =
+    omega (arith, left_fits c.requires c.if-at-n.false c.leaves-l.ensures, mid_size c.requires c.if-at-n.false c.leaves-l.ensures, c.well_formed.1.1.1.0.1)
 
-  mul_right : lts.Need-overflow-mul-right (calls t) (given t) leaves.Post
-  mul_right c = omega (arith, row_fits c.before.before.before.before.requires.1.on c.before.if1.false)
+pub slice_bounds-leaves-count : goal.slice_bounds-leaves-count
+slice_bounds-leaves-count t c = left_fits c.requires c.if-at-n.false c.leaves-l.ensures
 
-  add_right : lts.Need-overflow-add-right (calls t) (given t) leaves.Post
-  add_right c = omega (arith, row_fits c.before.before.before.before.requires.1.on c.before.if1.false)
+pub slice_bounds-leaves-start : goal.slice_bounds-leaves-start
+slice_bounds-leaves-start t c = left_fits c.requires c.if-at-n.false c.leaves-l.ensures
 
-  mul_right_2 : lts.Need-overflow-mul-right-2 (calls t) (given t) leaves.Post
-  mul_right_2 c = omega (arith, row_fits c.before.before.before.before.requires.1.on c.before.if1.false)
+pub leaves-r-requires : goal.leaves-r-requires
+leaves-r-requires t c =
+    (omega (arith, right_falls c.requires.on c.if-at-n.false), ready_right c.requires c.if-at-n.false c.leaves-l.ensures)
 
-  shared_slice_read_right : lts.Need-shared-slice-read-right (calls t) (given t) leaves.Post
-  shared_slice_read_right c = row_fits c.before.before.before.before.before.requires.1.on c.before.before.if1.false
+pub overflow_add-result : goal.overflow_add-result
+overflow_add-result t c =
+    omega (arith, total_fits c.requires c.if-at-n.false c.leaves-l.ensures c.leaves-r.ensures, c.well_formed.1.1.1.0.0)
 
-  -- the left child's call, and the part after its leaves
+pub shape_of-out : goal.shape_of-out
+shape_of-out t c =
+    kept_fork c.requires c.if-at-n.false c.leaves-l.ensures c.leaves-r.ensures
 
-  leaves_requires : lts.Need-leaves-requires (calls t) (given t) leaves.Post
-  leaves_requires c κs =
-      let s = c.before.before.before.before.before.before in
-      let ge = c.before.before.before.if1.false in
-      (omega (arith, left_falls s.requires.1.on ge, s.requires.0), ready_left s.requires.1 ge)
-
-  mul_leaves : lts.Need-overflow-mul-leaves (calls t) (given t) leaves.Post
-  mul_leaves c =
-      let s = c.before.before.before.before.before.before.before.before.before in
-      let ge = c.before.before.before.before.before.before.if1.false in
-      let w = c.before.before.leaves.ensures in
-      omega (arith, left_fits s.requires.1 ge w, mid_size s.requires.1 ge w, s.well-formed.1.1.1.0.1)
-
-  sub_leaves : lts.Need-overflow-sub-leaves (calls t) (given t) leaves.Post
-  sub_leaves c = left_fits c.before.before.before.before.before.before.before.before.before.requires.1 c.before.before.before.before.before.before.if1.false c.before.before.leaves.ensures
-
-  part_leaves_start : lts.Need-slice-bounds-leaves-start (calls t) (given t) leaves.Post
-  part_leaves_start c = left_fits c.before.before.before.before.before.before.before.before.before.requires.1 c.before.before.before.before.before.before.if1.false c.before.before.leaves.ensures
-
-  part_leaves_end : lts.Need-slice-bounds-leaves-end (calls t) (given t) leaves.Post
-  part_leaves_end c = search rules
-
-  -- the right child's call, and both
-
-  leaves_requires_2 : lts.Need-leaves-requires-2 (calls t) (given t) leaves.Post
-  leaves_requires_2 c κs =
-      let s = c.before.before.before.before.before.before.before.before.before.before in
-      let ge = c.before.before.before.before.before.before.before.if1.false in
-      (omega (arith, right_falls s.requires.1.on ge, s.requires.0), ready_right s.requires.1 ge c.before.before.before.leaves.ensures)
-
-  add_result : lts.Need-overflow-add-result (calls t) (given t) leaves.Post
-  add_result c =
-      let s = c.before.before.before.before.before.before.before.before.before.before.before.before.before in
-      let ge = c.before.before.before.before.before.before.before.before.before.before.if1.false in
-      omega (arith, total_fits s.requires.1 ge c.before.before.before.before.before.before.leaves.ensures c.before.before.leaves2.ensures, s.well-formed.1.1.1.0.0)
-
-  same_length_2 : lts.Need-same-length-2 (calls t) (given t) leaves.Post
-  same_length_2 c =
-      let s = c.before.before.before.before.before.before.before.before.before.before.before.before.before in
-      let ge = c.before.before.before.before.before.before.before.before.before.before.if1.false in
-      kept_fork s.requires.1 ge c.before.before.before.before.before.before.leaves.ensures c.before.before.leaves2.ensures
-
-  returns_2 : lts.Need-returns-2 (calls t) (given t) leaves.Post
-  returns_2 c =
-      let s = c.before.before.before.before.before.before.before.before.before.before.before.before.before in
-      let ge = c.before.before.before.before.before.before.before.before.before.before.if1.false in
-      wrote_fork s.requires.1 ge c.before.before.before.before.before.before.leaves.ensures c.before.before.leaves2.ensures
+pub returns : goal.returns
+returns t c =
+    wrote_fork c.requires c.if-at-n.false c.leaves-l.ensures c.leaves-r.ensures

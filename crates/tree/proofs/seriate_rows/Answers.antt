@@ -7,11 +7,11 @@ loop-i-init c = search filling
 
 pub seriate_row-requires : goal.seriate_row-requires
 seriate_row-requires c = record {
-      seriable = (search filling).0;
-      i_lt_n = (search filling).1;
-      n_in_bounds = (search filling).2;
-      out_value = (search filling).3;
-    }
+  seriable = search filling;
+  i_lt_n = search filling;
+  n_in_bounds = search filling;
+  out_value = search filling;
+}
 
 pub overflow_add-i : goal.overflow_add-i
 overflow_add-i c = search filling

@@ -40,9 +40,9 @@ turn f i s t z p q = p ∙ ap (f i) q ∙ sym (range_more f 0 i s zero-le)
 
 pub returns-then-n-gt64 : goal.returns-then-n-gt64
 returns-then-n-gt64 c = let e = too_many c.args.n c.args.xs.now c.args.d.now c.if-n-gt64.true in record {
-      value = rw e refl;
-      d_after = rw e refl;
-    }
+  value = rw e refl;
+  d_after = rw e refl;
+}
 
 pub overflow_mul-n : goal.overflow_mul-n
 overflow_mul-n c = omega (arith, square_in c.args.n c.if-n-gt64.false)
@@ -71,13 +71,12 @@ pub loop-r-init : goal.loop-r-init
 loop-r-init c = (search rules, sym (range_none _ _ _ _ (search rules)), sym (range_none _ _ _ _ (search rules)), refl)
 
 pub fill_row-same-requires : goal.fill_row-same-requires
-fill_row-same-requires c =
-    (
-      c.if-n-gt64.false,
-      omega arith,
-      c.if-xs-n.false,
-      omega (arith, room_for c.args.n c.args.d.now c.if-d-n.false, c.loop-r.invariant.3),
-    )
+fill_row-same-requires c = (
+  c.if-n-gt64.false,
+  omega arith,
+  c.if-xs-n.false,
+  omega (arith, room_for c.args.n c.args.d.now c.if-d-n.false, c.loop-r.invariant.3),
+)
 
 pub overflow_step-r : goal.overflow_step-r
 overflow_step-r c = omega arith
@@ -86,13 +85,12 @@ pub loop-r-smaller : goal.loop-r-smaller
 loop-r-smaller c = omega arith
 
 pub loop-r-preserved : goal.loop-r-preserved
-loop-r-preserved c =
-    (
-      omega arith,
-      turn (mirror_row c.args.n c.args.xs.now) _ _ _ _ c.fill_row-same.ensures.0 c.loop-r.invariant.1,
-      turn (upper_row c.args.n c.args.xs.now) _ _ _ _ c.fill_row-same.ensures.1 c.loop-r.invariant.2,
-      c.fill_row-same.auto.d ∙ c.loop-r.invariant.3,
-    )
+loop-r-preserved c = (
+  omega arith,
+  turn (mirror_row c.args.n c.args.xs.now) _ _ _ _ c.fill_row-same.ensures.0 c.loop-r.invariant.1,
+  turn (upper_row c.args.n c.args.xs.now) _ _ _ _ c.fill_row-same.ensures.1 c.loop-r.invariant.2,
+  c.fill_row-same.auto.d ∙ c.loop-r.invariant.3,
+)
 
 pub shape_of-d : goal.shape_of-d
 shape_of-d c = c.loop-r.invariant.3
@@ -100,8 +98,6 @@ shape_of-d c = c.loop-r.invariant.3
 pub returns : goal.returns
 unfolding mirrored upper_of
 returns c = let e = has_room_lem c.args.n c.args.xs.now c.args.d.now c.if-n-gt64.false c.if-xs-n.false c.if-d-n.false in record {
-      value = rw e (range_end _ _ _ _ _ _ c.loop-r.invariant.1 c.loop-r.invariant.0 (omega arith));
-      d_after = (
-      rw e (range_end _ _ _ _ _ _ c.loop-r.invariant.2 c.loop-r.invariant.0 (omega arith)),
-    );
-    }
+  value = rw e (range_end _ _ _ _ _ _ c.loop-r.invariant.1 c.loop-r.invariant.0 (omega arith));
+  d_after = rw e (range_end _ _ _ _ _ _ c.loop-r.invariant.2 c.loop-r.invariant.0 (omega arith));
+}

@@ -6,13 +6,13 @@ use mathlib.Core.Path.{◌≡◌, refl, sym, ap, ◌∙◌}
 use mathlib.Core.Bool.{Bool, ◌&&◌}
 use mathlib.Core.List.{List}
 use lib.Dec.{eqb}
-use lib.ListN.{set, length-set}
+use lib.ListN.{length, set, length-set}
 use lib.Ieee.{Float, binary64, to_bits}
 use Rattle.lent.specs.Grid.{cell}
 use Rattle.lent.proofs.Range.{range_none, range_more, range_end}
 use Rattle.triangle.specs.declared.Form.TheVariants.{Triangle}
 use Rattle.triangle.specs.Triangle.{place_of, is_mirror, mirror_row, upper_row}
-use Rattle.triangle.proofs.Places.{right_at}
+use Rattle.triangle.proofs.Places.{right_at, write_in}
 use Rattle.triangle.proofs.fill_row.Goals as goal
 
 -- one cell more held to its mirror
@@ -40,13 +40,13 @@ pub overflow_sub-d-in-loop-c : goal.overflow_sub-d-in-loop-c
 overflow_sub-d-in-loop-c c = omega arith
 
 pub overflow_add-d : goal.overflow_add-d
-overflow_add-d c = omega (arith, (place_in c).1)
+overflow_add-d c = omega (arith, (write_in c.args.n _ c.args.r c.loop-c.c (length c.loop-c.d) c.requires.0 (omega arith) (omega arith) (omega (arith, c.requires.3, c.loop-c.invariant.4)) c.row_start-base.ensures).1)
 
 pub offset_bounds-d-base : goal.offset_bounds-d-base
-offset_bounds-d-base c = omega (arith, (place_in c).1)
+offset_bounds-d-base c = omega (arith, (write_in c.args.n _ c.args.r c.loop-c.c (length c.loop-c.d) c.requires.0 (omega arith) (omega arith) (omega (arith, c.requires.3, c.loop-c.invariant.4)) c.row_start-base.ensures).1)
 
 pub bounds-d-base : goal.bounds-d-base
-bounds-d-base c = (place_in c).0
+bounds-d-base c = (write_in c.args.n _ c.args.r c.loop-c.c (length c.loop-c.d) c.requires.0 (omega arith) (omega arith) (omega (arith, c.requires.3, c.loop-c.invariant.4)) c.row_start-base.ensures).0
 
 pub overflow_step-c-in-loop-c : goal.overflow_step-c-in-loop-c
 overflow_step-c-in-loop-c c = omega arith
