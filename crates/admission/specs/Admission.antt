@@ -1,5 +1,5 @@
 -- What a call of the allocation on a covariance must have: its rule and its rooms. Document 01, "Order". Definitions only.
-use Rattle.std.specs.Prelude.{ℕ, Bool, not, List, [], ◌∷◌, ◌++◌, length, Float}
+use Rattle.std.specs.Prelude.{ℕ, Bool, not, List, [], ◌∷◌, ◌++◌, length}
 use Rattle.refusal.specs.Table.{Line}
 use Rattle.refusal.specs.declared.Refusal.TheVariants.{DimensionMismatch, OverLimit, SliceLength}
 use Rattle.lent.specs.Lent.{over_limit, other_length, sizes}

@@ -87,7 +87,7 @@ fn judge_rule(
         (record {
           rule = record {
             metric = metric;
-            inputs = record { expected = expected.entry.now; returns = xs; return_rows = return_rows; confidence = confidence };
+            inputs = record { expected = expected.now; returns = xs; return_rows = return_rows; confidence = confidence };
             clusters = clusters;
           };
           expected_given = given;
@@ -97,7 +97,7 @@ fn judge_rule(
         ++ rule_lines
         (record {
           metric = metric;
-          inputs = record { expected = expected.entry.now; returns = xs; return_rows = return_rows; confidence = confidence };
+          inputs = record { expected = expected.now; returns = xs; return_rows = return_rows; confidence = confidence };
           clusters = clusters;
         })
         n) }
@@ -138,7 +138,7 @@ pub fn judge(
         (record {
           rule = record {
             metric = metric;
-            inputs = record { expected = expected.entry.now; returns = returns.now; return_rows = return_rows; confidence = confidence };
+            inputs = record { expected = expected.now; returns = returns.now; return_rows = return_rows; confidence = confidence };
             clusters = clusters;
           };
           expected_given = given;

@@ -1,8 +1,8 @@
 -- The refusals of `recursive_bisection_min_var`, how it ends, and what its callers know of it:
---     bisection-accepted       an accepted call has weights, as many as assets
---     bisection-as-shares      where the sizes and the order are right, only a side can be refused
+--     bisection_accepted       an accepted call has weights, as many as assets
+--     bisection_as_shares      where the sizes and the order are right, only a side can be refused
 -- Assumes nothing.
-use Prim.Native.Nat.{ℕ, zero, suc, ◌-◌, ◌*◌, ◌<◌, ◌≤◌}
+use Prim.Native.Nat.{ℕ, zero, suc, ◌*◌, ◌<◌, ◌≤◌}
 use mathlib.Core.Path.{◌≡◌, refl, sym, ap, ◌∙◌}
 use mathlib.Core.Bool.{Bool, true, false, not}
 use mathlib.Core.List.{List, [], ◌∷◌, ◌++◌}

@@ -1,7 +1,7 @@
 -- What the clusters of a tree hold together. Everything here goes down the tree.
---     Each, sum-leaves       what holds of each cluster; what adds up over lists adds up over the clusters to what it is over the leaves
+--     Each, sum_leaves       what holds of each cluster; what adds up over lists adds up over the clusters to what it is over the leaves
 --     all_fit, shares        a cluster's size and depth, and that the shares come to the whole
---     one-alone              a sum of one has one term of one
+--     one_alone              a sum of one has one term of one
 -- Assumes nothing.
 use mathlib.Core.Path.{◌≡◌, sym, ap, ap₂, ◌∙◌}
 use mathlib.Core.Bool.{Bool, true, false}

@@ -1,6 +1,6 @@
 -- What stands at each asset of a cluster once one has been shared out by equal weighting.
 --     halved        the factor of every split is a half
---     allot-kept    sharing below a node keeps the number of weights, and the weights of the assets elsewhere
+--     allot_kept    sharing below a node keeps the number of weights, and the weights of the assets elsewhere
 --     given         each asset of a cluster gets its portion
 -- Assumes nothing.
 use mathlib.Core.Path.{◌≡◌, refl, sym, ap, subst, ◌∙◌}

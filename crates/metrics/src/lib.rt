@@ -263,7 +263,7 @@ pub fn split_factor(
     scratch: &mut [f64],
 ) -> Splitting
     ensures value { result ≡ split_answer metric
-        (record { expected = expected.entry.now; returns = returns.now; return_rows = return_rows; confidence = confidence })
+        (record { expected = expected.now; returns = returns.now; return_rows = return_rows; confidence = confidence })
         cov.now n left.now right.now (length scratch.old) }
     ensures scratch_after { scratch.new ≡ zeros (length scratch.old) }
 {

@@ -12,12 +12,12 @@ use refusal::{Outcome, Refusal};
 pub fn clear_all(rows: &mut [usize], order: &mut [usize], weights: &mut [f64], scratch: &mut [f64])
     ensures { Cleared
         (record {
-          rows = length rows.entry.now;
+          rows = length rows.old;
           order = length order.old;
           weights = length weights.old;
           scratch = length scratch.old;
         })
-        rows.exit.now order.new weights.new scratch.new }
+        rows.new order.new weights.new scratch.new }
 {
     lent::clear_numbers(rows);
     lent::clear_numbers(order);
@@ -36,14 +36,14 @@ pub fn clear_with_matrices(
 )
     ensures { ParityCleared
         (record {
-          rows = length rows.entry.now;
+          rows = length rows.old;
           order = length order.old;
           weights = length weights.old;
           correlations = length correlations.old;
           distances = length distances.old;
           scratch = length scratch.old;
         })
-        rows.exit.now order.new weights.new correlations.new distances.new scratch.new }
+        rows.new order.new weights.new correlations.new distances.new scratch.new }
 {
     clear_all(rows, order, weights, scratch);
     lent::clear(correlations);

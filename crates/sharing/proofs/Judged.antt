@@ -1,6 +1,6 @@
 -- The refusals of `allocate_down_tree`, and what an accepted call says. Assumes nothing.
---     down-accepted      the sizes, the tree and the counts are right, there are weights, and as many as assets
---     down-as-shares     where the sizes, the tree and the counts are right, only the recursion can refuse
+--     down_accepted      the sizes, the tree and the counts are right, there are weights, and as many as assets
+--     down_as_shares     where the sizes, the tree and the counts are right, only the recursion can refuse
 use Prim.Native.Nat.{ℕ, zero, suc, ◌-◌, ◌*◌, ◌<◌, ◌≤◌}
 use mathlib.Core.Path.{◌≡◌, refl, sym, ap, subst, ◌∙◌}
 use mathlib.Core.Bool.{Bool, true, false, not, ◌&&◌, ◌||◌}
@@ -381,7 +381,7 @@ unfolding down_size_lines
 sizes_said s other ragged misfit many big o1 o2 o3 o4 o5 o6 o7 o8 p1 p2 p3 p4 p5 l1 l2 l3 l4 l5 l6 l7 l8 =
     simp (table, table_end) (rw (l8, l7, l6, l5, l4, l3, l2, l1, p5, p4, p3, p2, p1))
 
-pub rules_said : (r : DownRules) (sharpe tail missing wrong unexpected present other-rows no_rows off no_part no-count tree : Bool) (o1 o2 o3 o4 o5 o6 o7 o8 : Outcome)
+pub rules_said : (r : DownRules) (sharpe tail missing wrong unexpected present other-rows no_rows off unpart no-count tree : Bool) (o1 o2 o3 o4 o5 o6 o7 o8 : Outcome)
     → sharpe ≡ is_sharpe r.metric
     → tail ≡ is_tail_risk r.metric
     → missing ≡ (sharpe && not r.expected_given)
@@ -391,11 +391,11 @@ pub rules_said : (r : DownRules) (sharpe tail missing wrong unexpected present o
     → other-rows ≡ (tail && present)
     → no_rows ≡ (tail && eqb r.return_rows 0)
     → off ≡ no_part r.confidence
-    → no_part ≡ (tail && off)
+    → unpart ≡ (tail && off)
     → no-count ≡ (eqb r.clusters 0 || ltb r.assets r.clusters)
     → tree ≡ is_tree r.rows r.assets
     → o1 ≡ or_else no-count (InvalidNumClusters r.clusters r.assets) Done
-    → o2 ≡ or_else no_part ConfidenceOutOfRange o1
+    → o2 ≡ or_else unpart ConfidenceOutOfRange o1
     → o3 ≡ or_else no_rows MissingReturnsForTailRisk o2
     → o4 ≡ or_else missing MissingExpectedReturnsForSharpe o3
     → o5 ≡ or_else (not tree) NoTree o4
@@ -404,7 +404,7 @@ pub rules_said : (r : DownRules) (sharpe tail missing wrong unexpected present o
     → o8 ≡ or_else unexpected DimensionMismatch o7
     → o8 ≡ first (down_rule_lines r)
 unfolding down_rule_lines other_rows metric_tail_lines
-rules_said r sharpe tail missing wrong unexpected present other-rows no_rows off no_part no-count tree o1 o2 o3 o4 o5 o6 o7 o8 p1 p2 p3 p4 p5 p6 p7 p8 p9 p10 p11 p12 l1 l2 l3 l4 l5 l6 l7 l8 =
+rules_said r sharpe tail missing wrong unexpected present other-rows no_rows off unpart no-count tree o1 o2 o3 o4 o5 o6 o7 o8 p1 p2 p3 p4 p5 p6 p7 p8 p9 p10 p11 p12 l1 l2 l3 l4 l5 l6 l7 l8 =
     simp (table, table_end) (rw (l8, l7, l6, l5, l4, l3, l2, l1, p12, p11, p10, p9, p8, p7, p6, p5, p4, p3, p2, p1))
 
 -- and joined

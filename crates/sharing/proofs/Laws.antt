@@ -13,7 +13,7 @@ use Rattle.arithmetic.specs.Constants.{pz}
 use Rattle.refusal.specs.declared.Refusal.{Refusal}
 use Rattle.refusal.specs.declared.Outcome.{Outcome}
 use Rattle.refusal.specs.declared.Outcome.TheVariants.{Done, Refused}
-use Rattle.lent.specs.Grid.{zeros, noughts, over}
+use Rattle.lent.specs.Grid.{zeros, over}
 use Rattle.lent.specs.Lent.{answer_of}
 use Rattle.lent.specs.declared.Answer.TheVariants as answer
 use Rattle.lent.proofs.Laws.{get_d_over, drop_replicate}

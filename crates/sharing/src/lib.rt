@@ -382,7 +382,7 @@ pub fn allocate_down_tree(
     ensures value { result ≡ down_answer
         (record {
           metric = metric;
-          inputs = record { expected = expected.entry.now; returns = returns.now; return_rows = return_rows; confidence = confidence };
+          inputs = record { expected = expected.now; returns = returns.now; return_rows = return_rows; confidence = confidence };
           expected_given = expected_given;
           return_columns = return_columns;
           covariance = covariance.now;
@@ -396,7 +396,7 @@ pub fn allocate_down_tree(
     ensures out_after { out.new ≡ down_weights
         (record {
           metric = metric;
-          inputs = record { expected = expected.entry.now; returns = returns.now; return_rows = return_rows; confidence = confidence };
+          inputs = record { expected = expected.now; returns = returns.now; return_rows = return_rows; confidence = confidence };
           expected_given = expected_given;
           return_columns = return_columns;
           covariance = covariance.now;

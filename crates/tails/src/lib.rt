@@ -460,7 +460,7 @@ pub fn cluster_expected_shortfall(
 ) -> Risk
     ensures value { result ≡ shortfall_answer
         (record {
-          returns = returns.entry.now;
+          returns = returns.now;
           return_rows = return_rows;
           return_columns = return_columns;
           covariance = covariance.now;
@@ -512,7 +512,7 @@ pub fn cluster_conditional_drawdown(
 ) -> Risk
     ensures value { result ≡ drawdown_answer
         (record {
-          returns = returns.entry.now;
+          returns = returns.now;
           return_rows = return_rows;
           return_columns = return_columns;
           covariance = covariance.now;

@@ -5,4 +5,4 @@ use Rattle.admission.proofs.judge_rule.Goals as goal
 
 pub returns : goal.returns
 unfolding rule_lines expected_lines
-returns c = simp (table, table_end, first_append) (rw (c.refuse.ensures, c.refuse-o-2.ensures, c.judge_tail-o.ensures, c.refuse-o.ensures, c.either-no_count.ensures, c.both-missing.ensures, c.both-unexpected.ensures, c.both.ensures, c.is_sharpe-sharpe.ensures))
+returns c xs w = simp (table, table_end, first_append) (rw (c.refuse.ensures, c.refuse-o-2.ensures, c.judge_tail-o.ensures, c.refuse-o.ensures, c.either-no_count.ensures, c.both-missing.ensures, c.both-unexpected.ensures, c.both.ensures, c.is_sharpe-sharpe.ensures))

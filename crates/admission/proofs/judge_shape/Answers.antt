@@ -5,7 +5,7 @@ use Rattle.admission.proofs.judge_shape.Goals as goal
 
 pub returns : goal.returns
 unfolding other_rows
-returns c =
+returns c e xs q g k =
     shape_said _ _ _ _ _ _ c.judge_square.ensures
     (rw (c.refuse-o.ensures, c.both-other.ensures, c.both.ensures, c.is_tail_risk-tail.ensures))
     c.and_then.ensures

@@ -33,13 +33,12 @@ pub loop-k-smaller : goal.loop-k-smaller
 loop-k-smaller c = search filling
 
 pub loop-k-preserved : goal.loop-k-preserved
-loop-k-preserved c =
-    (
-      omega arith,
-      simp length-set c.loop-k.invariant.1,
-      tab_step (λ j. div binary64 (get_or c.args.ws.now j nan) c.args.s) _ _ c.args.ws.now _ _ refl c.loop-k.invariant.2
-          (c.settled.ensures ∙ ap (λ (x : Float). div binary64 x c.args.s) (unwritten _ _ _ _ nan c.loop-k.invariant.2)) (omega arith),
-    )
+loop-k-preserved c = (
+  omega arith,
+  simp length-set c.loop-k.invariant.1,
+  tab_step (λ j. div binary64 (get_or c.args.ws.now j nan) c.args.s) _ _ c.args.ws.now _ _ refl c.loop-k.invariant.2
+      (c.settled.ensures ∙ ap (λ (x : Float). div binary64 x c.args.s) (unwritten _ _ _ _ nan c.loop-k.invariant.2)) (omega arith),
+)
 
 pub shape_of-ws : goal.shape_of-ws
 shape_of-ws c = search filling

@@ -1,20 +1,20 @@
 -- `bisection::recursive_bisection_min_var` meets its contract. How it ends is in `Laws`. Assumes nothing.
 use mathlib.Core.Path.{refl, sym, ◌∙◌}
-use borrow.Author.Tests.{not-true, not-false}
 use borrow.Author.Rules.{rules}
 use lib.ListN.{length-replicate}
 use lib.Seq.{length-take-le}
 use Rattle.bisection.proofs.Laws.{take_zeros, call_roomy, call_low, ends_refused, ends_side, ends_done}
 use Rattle.bisection.proofs.recursive_bisection_min_var.Goals as goal
 
+-- each clause, from a proof of all
+clauses : {A B : Type 0} → A × B → record { value : A; out_after : B }
+clauses p = record { value = p.0; out_after = p.1 }
+
 pub shape_of-out-in_default : goal.shape_of-out-in_default
 shape_of-out-in_default c = c.clear.auto.out
 
 pub returns-in_default : goal.returns-in_default
-returns-in_default c = record {
-      value = (ends_refused _ _ _ _ _ _ c.judge-said.ensures _ _ _ c.in_default.is c.answered.ensures c.clear.ensures).0;
-      out_after = (ends_refused _ _ _ _ _ _ c.judge-said.ensures _ _ _ c.in_default.is c.answered.ensures c.clear.ensures).1;
-    }
+returns-in_default c = clauses (ends_refused _ _ _ _ _ _ c.judge-said.ensures _ _ _ c.in_default.is c.answered.ensures c.clear.ensures)
 
 pub slice_bounds-share-end : goal.slice_bounds-share-end
 slice_bounds-share-end c =
@@ -28,19 +28,16 @@ slice_bounds-share-end-2 c =
 
 pub share-requires : goal.share-requires
 share-requires c = record {
-      by_index = call_low _ _ _ _ _ _ c.judge-said.ensures c.in-Done.is;
-      weights_value = rw c.clear.ensures (take_zeros _ _ (call_roomy _ _ _ _ _ _ c.judge-said.ensures c.in-Done.is));
-    }
+  by_index = call_low _ _ _ _ _ _ c.judge-said.ensures c.in-Done.is;
+  weights_value = rw c.clear.ensures (take_zeros _ _ (call_roomy _ _ _ _ _ _ c.judge-said.ensures c.in-Done.is));
+}
 
 pub returns-then-not-share : goal.returns-then-not-share
-returns-then-not-share c = let ends = ends_side _ _ _ _ _ _ c.judge-said.ensures _ c.in-Done.is c.share.result _ c.share.ensures (not-true _ c.if-not-share.true) c.clear.new.out c.refused.ensures.weights_after (search rules) in
+returns-then-not-share c = let ends = ends_side _ _ _ _ _ _ c.judge-said.ensures _ c.in-Done.is c.share.result _ c.share.ensures c.if-not-share.true c.clear.new.out c.refused.ensures.weights_after (search rules) in
     record {
       value = c.refused.ensures.value ∙ ends.0;
       out_after = ends.1;
     }
 
 pub returns : goal.returns
-returns c = record {
-      value = (ends_done _ _ _ _ _ _ c.judge-said.ensures _ c.in-Done.is c.share.result _ c.share.ensures _ _ (not-false _ c.if-not-share.false) c.answered-2.ensures c.clear.ensures refl).0;
-      out_after = (ends_done _ _ _ _ _ _ c.judge-said.ensures _ c.in-Done.is c.share.result _ c.share.ensures _ _ (not-false _ c.if-not-share.false) c.answered-2.ensures c.clear.ensures refl).1;
-    }
+returns c = clauses (ends_done _ _ _ _ _ _ c.judge-said.ensures _ c.in-Done.is c.share.result _ c.share.ensures _ _ c.if-not-share.false c.answered-2.ensures c.clear.ensures refl)

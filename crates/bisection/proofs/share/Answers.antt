@@ -1,7 +1,6 @@
 -- `bisection::share` meets its contract. Assumes nothing.
 use mathlib.Core.Path.{ap, ◌∙◌}
 use native.Mathlib.Omega.{arith}
-use borrow.Author.Tests.{not-true, not-false}
 use lib.ListN.{length, length-replicate}
 use Rattle.arithmetic.specs.Constants.{pz}
 use Rattle.clusters.proofs.Sharing.{told_yes, told_no}
@@ -15,10 +14,10 @@ pub shape_of-weights-then-not-bisect : goal.shape_of-weights-then-not-bisect
 shape_of-weights-then-not-bisect c = c.bisect.auto.weights
 
 pub returns-then-not-bisect : goal.returns-then-not-bisect
-returns-then-not-bisect c = told_no _ ∙ share_no _ _ _ c.bisect.result _ (rw c.requires.weights_value at c.bisect.ensures) (not-true _ c.if-not-bisect.true)
+returns-then-not-bisect c = told_no _ ∙ share_no _ _ _ c.bisect.result _ (rw c.requires.weights_value at c.bisect.ensures) c.if-not-bisect.true
 
 pub shape_of-weights : goal.shape_of-weights
 shape_of-weights c = c.normalise.auto.ws ∙ c.bisect.auto.weights
 
 pub returns : goal.returns
-returns c = told_yes _ ∙ share_yes _ _ _ c.bisect.result _ (rw c.requires.weights_value at c.bisect.ensures) (not-false _ c.if-not-bisect.false) _ c.normalise.ensures
+returns c = told_yes _ ∙ share_yes _ _ _ c.bisect.result _ (rw c.requires.weights_value at c.bisect.ensures) c.if-not-bisect.false _ c.normalise.ensures

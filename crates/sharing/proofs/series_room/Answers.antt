@@ -9,12 +9,12 @@ overflow_add-result c = omega (arith, c.requires (sym c.is_tail_risk.ensures ∙
 
 pub returns-then-is_tail_risk : goal.returns-then-is_tail_risk
 returns-then-is_tail_risk c = record {
-      upper_bound = omega (arith, c.requires (sym c.is_tail_risk.ensures ∙ c.if-is_tail_risk.true));
-      value = λ h. refl;
-    }
+  upper_bound = omega (arith, c.requires (sym c.is_tail_risk.ensures ∙ c.if-is_tail_risk.true));
+  value = λ h. refl;
+}
 
 pub returns : goal.returns
 returns c = record {
-      upper_bound = omega arith;
-      value = λ h. never_both (sym c.is_tail_risk.ensures ∙ c.if-is_tail_risk.false) h;
-    }
+  upper_bound = omega arith;
+  value = λ h. never_both (sym c.is_tail_risk.ensures ∙ c.if-is_tail_risk.false) h;
+}

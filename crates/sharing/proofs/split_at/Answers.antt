@@ -14,6 +14,6 @@ slice_bounds-split_factor-end-2 c = sym (series_length c.requires.blank c.series
 
 pub returns : goal.returns
 returns c = record {
-      value = split_right c.requires.blank c.series_room-m.ensures.upper_bound c.requires.fed c.series_room-m.ensures.value _ _ _ _ c.split_factor.ensures.value;
-      scratch_unchanged = blank_again c.requires.blank c.series_room-m.ensures.upper_bound c.split_factor.ensures.scratch_after;
-    }
+  value = split_right c.requires.blank c.series_room-m.ensures.upper_bound c.requires.fed c.series_room-m.ensures.value _ _ _ _ c.split_factor.ensures.value;
+  scratch_unchanged = blank_again c.requires.blank c.series_room-m.ensures.upper_bound c.split_factor.ensures.scratch_after;
+}

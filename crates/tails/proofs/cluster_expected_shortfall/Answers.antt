@@ -15,6 +15,6 @@ shape_of-series c = c.ended.auto.series ∙ c.shortfall_after-risk.auto.series
 
 pub returns : goal.returns
 returns c = let m = (measure_call c.args.returns.now c.args.return_rows c.args.return_columns c.args.covariance.now c.args.rows c.args.columns c.args.assets.now c.args.confidence (length c.args.series.now)) in record {
-      value = c.ended.ensures.value ∙ shortfall_answered m _ _ c.weigh-said.ensures.value c.weigh-said.ensures.w_after _ c.shortfall_after-risk.ensures;
-      series_after = c.ended.ensures.series_after ∙ ap zeros c.shortfall_after-risk.auto.series;
-    }
+  value = c.ended.ensures.value ∙ shortfall_answered m _ _ c.weigh-said.ensures.value c.weigh-said.ensures.w_after _ c.shortfall_after-risk.ensures;
+  series_after = c.ended.ensures.series_after ∙ ap zeros c.shortfall_after-risk.auto.series;
+}

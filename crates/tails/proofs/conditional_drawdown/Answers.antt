@@ -8,9 +8,9 @@ use Rattle.tails.proofs.conditional_drawdown.Goals as goal
 
 pub limit_of-limit-requires : goal.limit_of-limit-requires
 limit_of-limit-requires c = record {
-      part = rest_part _ c.requires.part;
-      xs_len_bound = search rules;
-    }
+  part = rest_part _ c.requires.part;
+  xs_len_bound = search rules;
+}
 
 pub shape_of-room : goal.shape_of-room
 shape_of-room c = c.limit_of-limit.auto.xs ∙ c.fill_drawdowns.auto.out

@@ -19,10 +19,10 @@ slice_bounds-conditional_drawdown-end-in-Done-2 c = let y = c.requires c.in-Done
 
 pub conditional_drawdown-v-requires : goal.conditional_drawdown-v-requires
 conditional_drawdown-v-requires c = let y = c.requires c.in-Done.is in record {
-      held_rows = y.held;
-      room_len = length-take-le _ _ (omega (arith, y.roomy));
-      part = y.part;
-    }
+  held_rows = y.held;
+  room_len = length-take-le _ _ (omega (arith, y.roomy));
+  part = y.part;
+}
 
 pub returns-in-Refused : goal.returns-in-Refused
 returns-in-Refused c = rw c.in-Refused.is

@@ -13,29 +13,17 @@ pub loop-r-init : goal.loop-r-init
 unfolding tab over wealth peak
 loop-r-init c = (search rules, refl, refl, refl, refl)
 
-pub offset_bounds-out-r : goal.offset_bounds-out-r
-offset_bounds-out-r c = search rules
-
-pub bounds-out-r : goal.bounds-out-r
-bounds-out-r c = search rules
-
 pub row_return-requires : goal.row_return-requires
 row_return-requires c = record {
-      held_rows = c.requires.held_rows;
-      r_lt_rows = c.loop-r-test.true;
-    }
+  held_rows = c.requires.held_rows;
+  r_lt_rows = c.loop-r-test.true;
+}
 
 pub loop-r-preserved : goal.loop-r-preserved
 loop-r-preserved c =
     let f = row_return c.args.returns.now c.args.n c.args.assets.now c.args.w.now in
     let g = wealth_next f c.loop-r.v c.row_return.result c.loop-r.r c.loop-r.invariant.3 c.row_return.ensures in
     (omega arith, simp length-set c.loop-r.invariant.1, tab_step (drawdown f) _ _ _ _ _ refl c.loop-r.invariant.2 (drawdown_at f _ _ _ _ c.loop-r.invariant.4 c.loop-r.invariant.3 c.fall_of.ensures) (omega (arith, c.requires.out_len)), g, peak_next f _ _ _ _ c.loop-r.invariant.4 g c.higher_of-p.ensures)
-
-pub offset_bounds-out-rows : goal.offset_bounds-out-rows
-offset_bounds-out-rows c = search rules
-
-pub bounds-out-rows : goal.bounds-out-rows
-bounds-out-rows c = search rules
 
 pub shape_of-out : goal.shape_of-out
 shape_of-out c = simp length-set c.loop-r.invariant.1

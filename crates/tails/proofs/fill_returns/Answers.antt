@@ -15,15 +15,9 @@ loop-r-init c = (search rules, refl, refl)
 
 pub row_return-v-requires : goal.row_return-v-requires
 row_return-v-requires c = record {
-      held_rows = c.requires.held_rows;
-      r_lt_rows = c.loop-r-test.true;
-    }
-
-pub offset_bounds-out-r : goal.offset_bounds-out-r
-offset_bounds-out-r c = search rules
-
-pub bounds-out-r : goal.bounds-out-r
-bounds-out-r c = search rules
+  held_rows = c.requires.held_rows;
+  r_lt_rows = c.loop-r-test.true;
+}
 
 pub loop-r-preserved : goal.loop-r-preserved
 loop-r-preserved c = (omega arith, simp length-set c.loop-r.invariant.1, tab_step (row_return c.args.returns.now c.args.n c.args.assets.now c.args.w.now) _ _ _ _ _ refl c.loop-r.invariant.2 c.row_return-v.ensures (omega (arith, c.requires.out_len)))

@@ -12,12 +12,6 @@ loop-k-init c = (search rules, sum_start _)
 pub at-requires : goal.at-requires
 at-requires c = held_cell c.requires.held_rows c.args.r c.loop-k.k c.requires.r_lt_rows (omega arith)
 
-pub offset_bounds-w-k : goal.offset_bounds-w-k
-offset_bounds-w-k c = search rules
-
-pub bounds-w-k : goal.bounds-w-k
-bounds-w-k c = search rules
-
 pub loop-k-preserved : goal.loop-k-preserved
 unfolding gain
 loop-k-preserved c = (omega arith, sum_step _ _ _ _ c.loop-k.invariant.1 (rw c.at.ensures))

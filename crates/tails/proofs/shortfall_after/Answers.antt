@@ -16,10 +16,10 @@ slice_bounds-expected_shortfall-end-in-Done-2 c = let y = c.requires c.in-Done.i
 
 pub expected_shortfall-v-requires : goal.expected_shortfall-v-requires
 expected_shortfall-v-requires c = let y = c.requires c.in-Done.is in record {
-      held_rows = y.held;
-      room_len = length-take-le _ _ (omega (arith, y.roomy));
-      part = y.part;
-    }
+  held_rows = y.held;
+  room_len = length-take-le _ _ (omega (arith, y.roomy));
+  part = y.part;
+}
 
 pub returns-in-Refused : goal.returns-in-Refused
 returns-in-Refused c = rw c.in-Refused.is

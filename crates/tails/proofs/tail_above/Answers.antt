@@ -17,9 +17,9 @@ loop-r-init c =
 
 pub row_return-requires : goal.row_return-requires
 row_return-requires c = record {
-      held_rows = c.requires;
-      r_lt_rows = c.loop-r-test.true;
-    }
+  held_rows = c.requires;
+  r_lt_rows = c.loop-r-test.true;
+}
 
 pub count_if-c-requires-in-loop-r : goal.count_if-c-requires-in-loop-r
 count_if-c-requires-in-loop-r c = omega (arith, c.requires.few)

@@ -13,9 +13,9 @@ loop-r-init c = (search rules, refl, refl, search rules)
 
 pub row_return-v-requires : goal.row_return-v-requires
 row_return-v-requires c = record {
-      held_rows = c.requires;
-      r_lt_rows = c.loop-r-test.true;
-    }
+  held_rows = c.requires;
+  r_lt_rows = c.loop-r-test.true;
+}
 
 pub count_if-c-requires : goal.count_if-c-requires
 count_if-c-requires c = omega (arith, c.requires.few)
