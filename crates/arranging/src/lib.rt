@@ -97,8 +97,8 @@ pub fn arrange(
     distances: &mut [f64],
 ) -> Outcome
     ensures { Arranged of distance linkage corr.now rows_in columns
-        (record { rows = length rows.entry.now; order = length order.old; distances = length distances.old })
-        result rows.exit.now order.new distances.new }
+        (record { rows = length rows.old; order = length order.old; distances = length distances.old })
+        result rows.new order.new distances.new }
 {
     let said = judge(
         corr.len(),

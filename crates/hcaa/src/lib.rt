@@ -326,12 +326,12 @@ pub fn allocate(
           linkage = linkage;
         })
         (record {
-          rows = length rows.entry.now;
+          rows = length rows.old;
           order = length order.old;
           weights = length weights.old;
           scratch = length scratch.old;
         })
-        result rows.exit.now order.new weights.new scratch.new }
+        result rows.new order.new weights.new scratch.new }
 {
     let read = sharing::metric_named(metric);
     let used = metric_of(read);

@@ -39,7 +39,7 @@ pub laid_cleared : (o : Outcome) (k : Refusal) (q : Rule) (d : Distance) (l : Li
 laid_cleared o k q d l cov n room rows order weights scratch e z =
     record {
       rows_are = z.rows_are ∙ laid_refused 0 o k _ _ e;
-      order_is = z.order-is ∙ laid_refused 0 o k _ _ e;
+      order_is = z.order_is ∙ laid_refused 0 o k _ _ e;
       weights_are = z.weights_are ∙ laid_refused pz o k _ _ e;
       scratch_is = z.scratch_is;
     }
@@ -69,7 +69,7 @@ module _ (q : HierarchyCall) (d : Distance) (l : Linkage) (cov : List Float) (ro
         → HierarchyAnswered q d l cov rows_in n room said rows order weights scratch
     answered_refused k back g h z =
         let o : hierarchy_outcome q d l cov rows_in n room ≡ Refused k = outcome_is ∙ then_refused said _ k h in
-        let all : Cleared room rows order weights scratch = record { rows_are = z.rows_are; order_is = z.order-is; weights_are = z.weights_are; scratch_is = z.scratch_is ∙ ap zeros g } in
+        let all : Cleared room rows order weights scratch = record { rows_are = z.rows_are; order_is = z.order_is; weights_are = z.weights_are; scratch_is = z.scratch_is ∙ ap zeros g } in
         record { answer = h ∙ sym o; buffers = laid_cleared _ k q.rule d l cov n room rows order weights scratch o all }
 
   module _ (h : said ≡ Done) where
@@ -125,7 +125,7 @@ module _ (q : HierarchyCall) (d : Distance) (l : Linkage) (cov : List Float) (ro
           answer = o;
           buffers = record {
             rows_are = x ∙ rw (o, p.rows_are h);
-            order_is = y ∙ rw (o, p.order-is h);
+            order_is = y ∙ rw (o, p.order_is h);
             weights_are = w ∙ rw (k, shared, p.rows_are h);
             scratch_is = s ∙ ap zeros k;
           };

@@ -23,7 +23,7 @@ use Rattle.tree.specs.Tree.{grow, tree_at, leaves}
 use Rattle.linkage.specs.Merge.{ward_f, update_f, pair_before, near, better, offer, look, scan_row, scan_from, scan_all, both, movable, moved, moved_all, merged, step, copied, start, state_at, merge_rows}
 use Rattle.linkage.specs.declared.Distance.TheVariants.{Correlation}
 use Rattle.linkage.specs.declared.Linkage.TheVariants.{Single}
-use Rattle.clusters.specs.Clusters.{recip, recip_sum, shares, term, variance_of, outside, any_listed_low as anyLowOf, risk_table, size_table, shares_outcome, variance_outcome, variance_answer}
+use Rattle.clusters.specs.Clusters.{recip, recip_sum, shares, term, variance_of, outside, any_listed_low as any_low_of, risk_table, size_table, shares_outcome, variance_outcome, variance_answer}
 use Rattle.clusters.specs.Shares.{factor_of, is_none, weights_in}
 use Rattle.distances.specs.declared.Measure.TheVariants.{Hcaa}
 use Rattle.arranging.specs.Arranging.{correlations_of, distances_in, tree_distances, tree_rows, tree_order}
@@ -170,5 +170,5 @@ of_tails =
     ∷ []
 
 pub figures : all of_scope && (all refusals && all of_tails) ≡ true
-unfolding hcaa_rows hcaa_order hcaa_shares room_lines hierarchy_size_lines hierarchy_shape_lines is_tail_risk metric_tail_lines other_rows no_part expected_lines rule_lines hierarchy_judge_table hcaa_risk_lines hierarchy_table hierarchy_outcome correlations_of distances_in tree_distances tree_rows tree_order is_sharpe down_shares allotted inside_of varied_of equal_of spread_of deal_to split_of scored factor_of by_risk split_by bounded first laid over_limit other_length sizes tab grid sum_to sum_on sum_rows any_to range span is_none weights_in recip recip_sum shares term variance_of outside anyLowOf risk_table size_table shares_outcome variance_outcome variance_answer correlation_cell any_low clamped distance_of distance_cell off_diagonal square between between_cell ward_f update_f pair_before near better offer look scan_row scan_from scan_all both movable moved moved_all merged step copied start state_at merge_rows grow tree_at leaves min_of max_of abs_of clamp_of finite_of count_of one_over root isqrt lt le eq is_nan neg add sum sub mul div of_int round units odd count_trailing_zeros size ieee-span climb of_fields of_bits to_bits square_lines
+unfolding hcaa_rows hcaa_order hcaa_shares room_lines hierarchy_size_lines hierarchy_shape_lines is_tail_risk metric_tail_lines other_rows no_part expected_lines rule_lines hierarchy_judge_table hcaa_risk_lines hierarchy_table hierarchy_outcome correlations_of distances_in tree_distances tree_rows tree_order is_sharpe down_shares allotted inside_of varied_of equal_of spread_of deal_to split_of scored factor_of by_risk split_by bounded first laid over_limit other_length sizes tab grid sum_to sum_on sum_rows any_to range span is_none weights_in recip recip_sum shares term variance_of outside any_low_of risk_table size_table shares_outcome variance_outcome variance_answer correlation_cell any_low clamped distance_of distance_cell off_diagonal square between between_cell ward_f update_f pair_before near better offer look scan_row scan_from scan_all both movable moved moved_all merged step copied start state_at merge_rows grow tree_at leaves min_of max_of abs_of clamp_of finite_of count_of one_over root isqrt lt le eq is_nan neg add sum sub mul div of_int round units odd count_trailing_zeros size ieee-span climb of_fields of_bits to_bits square_lines
 figures = refl

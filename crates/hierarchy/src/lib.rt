@@ -125,7 +125,7 @@ pub fn allocate_covariance(
         (record {
           rule = record {
             metric = metric;
-            inputs = record { expected = expected.entry.now; returns = returns.now; return_rows = return_rows; confidence = confidence };
+            inputs = record { expected = expected.now; returns = returns.now; return_rows = return_rows; confidence = confidence };
             clusters = clusters;
           };
           expected_given = expected_given;
@@ -133,12 +133,12 @@ pub fn allocate_covariance(
         })
         distance linkage covariance.now rows_in columns
         (record {
-          rows = length rows.entry.now;
+          rows = length rows.old;
           order = length order.old;
           weights = length weights.old;
           scratch = length scratch.old;
         })
-        result rows.exit.now order.new weights.new scratch.new }
+        result rows.new order.new weights.new scratch.new }
 {
     let said = admission::judge(
         covariance.len(),

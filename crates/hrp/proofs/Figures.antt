@@ -18,15 +18,15 @@ use Rattle.lent.specs.Range.{span, range}
 use Rattle.lent.specs.Lent.{over_limit, other_length, too_big, misfits, sizes, laid}
 use Rattle.lent.specs.declared.Shape.{Shape}
 use Rattle.lent.specs.declared.Shape.TheVariants.{Absent, Of}
-use Rattle.text.specs.Bytes.{bytes, lower, same as sameBytes, is_word}
+use Rattle.text.specs.Bytes.{bytes, lower, same as same_bytes, is_word}
 use Rattle.resample.specs.Resample.{is_weekly, is_monthly, step_of, keeps_all, kept_rows, kept_row, sampled_cell, return_cell, zero_met}
-use Rattle.stats.specs.Covariance.{mean_of, spread, covariance_of as covarianceIn, covariance_cell, shrunk_cell, correlation_cell, any_low}
+use Rattle.stats.specs.Covariance.{mean_of, spread, covariance_of as covariance_in, covariance_cell, shrunk_cell, correlation_cell, any_low}
 use Rattle.distances.specs.Distances.{clamped, distance_of, distance_cell, off_diagonal, square, between, between_cell}
 use Rattle.tree.specs.Tree.{grow, tree_at, leaves}
 use Rattle.tree.specs.Order.{seriated_cell}
 use Rattle.linkage.specs.Merge.{ward_f, update_f, pair_before, near, better, offer, look, scan_row, scan_from, scan_all, both, movable, moved, moved_all, merged, step, copied, start, state_at, merge_rows}
 use Rattle.linkage.specs.declared.Distance.TheVariants.{Correlation}
-use Rattle.clusters.specs.Clusters.{recip, recip_sum, shares, term, variance_of, outside, any_listed_low as anyLowOf, risk_table, size_table, variance_outcome, variance_answer}
+use Rattle.clusters.specs.Clusters.{recip, recip_sum, shares, term, variance_of, outside, any_listed_low as any_low_of, risk_table, size_table, variance_outcome, variance_answer}
 use Rattle.clusters.specs.Shares.{is_none, weights_in}
 use Rattle.bisection.specs.Bisection.{factor_of, sides_factor, halved, bisected, normal, bisection_shares}
 use Rattle.arranging.specs.Arranging.{distances_in, tree_rows, tree_order}
@@ -159,5 +159,5 @@ refusals =
     ∷ []
 
 pub figures : all done && all refusals ≡ true
-unfolding distances_in tree_rows tree_order hrp_outcome hrp_table matrix_lines hrp_shape_lines number_lines prices_alone hrp_covariance hrp_covariance_by shrunk_if estimated hrp_return_cells hrp_return_rows absent rows_of_shape other_columns other_size sampled no_returns made_returns is_weekly is_monthly step_of keeps_all kept_rows kept_row sampled_cell return_cell zero_met lower sameBytes is_word mean_of spread covarianceIn covariance_cell shrunk_cell count_of of_int too_big misfits correlations_of hrp_distances tree_distances hrp_rows hrp_order hrp_shares seriated_in parity_room_lines hrp_risk_lines first laid over_limit other_length sizes tab grid sum_to sum_on sum_rows any_to range span is_none weights_in factor_of sides_factor halved bisected normal bisection_shares recip recip_sum shares term variance_of outside anyLowOf risk_table size_table variance_outcome variance_answer correlation_cell any_low clamped distance_of distance_cell off_diagonal square between between_cell ward_f update_f pair_before near better offer look scan_row scan_from scan_all both movable moved moved_all merged step copied start state_at merge_rows grow tree_at leaves seriated_cell min_of max_of abs_of clamp_of root isqrt lt le eq is_nan neg add sum sub mul div round units odd count_trailing_zeros size ieee-span climb of_fields of_bits to_bits room_lines
+unfolding distances_in tree_rows tree_order hrp_outcome hrp_table matrix_lines hrp_shape_lines number_lines prices_alone hrp_covariance hrp_covariance_by shrunk_if estimated hrp_return_cells hrp_return_rows absent rows_of_shape other_columns other_size sampled no_returns made_returns is_weekly is_monthly step_of keeps_all kept_rows kept_row sampled_cell return_cell zero_met lower same_bytes is_word mean_of spread covariance_in covariance_cell shrunk_cell count_of of_int too_big misfits correlations_of hrp_distances tree_distances hrp_rows hrp_order hrp_shares seriated_in parity_room_lines hrp_risk_lines first laid over_limit other_length sizes tab grid sum_to sum_on sum_rows any_to range span is_none weights_in factor_of sides_factor halved bisected normal bisection_shares recip recip_sum shares term variance_of outside any_low_of risk_table size_table variance_outcome variance_answer correlation_cell any_low clamped distance_of distance_cell off_diagonal square between between_cell ward_f update_f pair_before near better offer look scan_row scan_from scan_all both movable moved moved_all merged step copied start state_at merge_rows grow tree_at leaves seriated_cell min_of max_of abs_of clamp_of root isqrt lt le eq is_nan neg add sum sub mul div round units odd count_trailing_zeros size ieee-span climb of_fields of_bits to_bits room_lines
 figures = refl

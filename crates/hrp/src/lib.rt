@@ -150,14 +150,14 @@ pub fn allocate(
           distance = distance;
         })
         (record {
-          rows = length rows.entry.now;
+          rows = length rows.old;
           order = length order.old;
           weights = length weights.old;
           correlations = length seriated_correlations.old;
           distances = length seriated_distances.old;
           scratch = length scratch.old;
         })
-        result rows.exit.now order.new weights.new seriated_correlations.new seriated_distances.new scratch.new }
+        result rows.new order.new weights.new seriated_correlations.new seriated_distances.new scratch.new }
 {
     let step = resample::freq_step(resample_by);
     let said = rooms::judge(

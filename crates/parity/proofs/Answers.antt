@@ -128,7 +128,7 @@ module _ (d : Distance) (cov : List Float) where
               answer = side ∙ ap (side_outcome cov n) order_is ∙ sym (then_done _ _ u ∙ risk_said ∙ then_done _ _ (sym v ∙ w));
               filled = λ g. record {
                 rows_are = t.rows_are ∙ rw (done, q);
-                order_is = t.order-is ∙ rw (done, q);
+                order_is = t.order_is ∙ rw (done, q);
                 weights_are = share_laid n p.some p.few cov p.cells (take n order) each room.weights p.for_weights weights ws (sym side ∙ g) ∙ ap (λ (x : List ℕ). laid pz Done room.weights (weights_in (bisection_shares cov n x))) order_is;
                 correlations_are = seriated_laid n p.few corr (take n order) correlations e each room.correlations p.for_correlations c1 ∙ rw (order_is, q);
                 distances_are = seriated_laid n p.few (take (n * n) (mid ++ rest)) (take n order) distances (ap length far ∙ length_distances Hrp d Single corr n) each room.distances p.for_distances (c2 ∙ ap (seriated (take (n * n) (mid ++ rest)) n n (take n order)) y) ∙ rw (order_is, far, q);
@@ -143,7 +143,7 @@ module _ (d : Distance) (cov : List Float) where
     laid_cleared o room rows order weights correlations distances scratch k e z =
         record {
           rows_are = z.shared.rows_are ∙ laid_refused 0 o k _ _ e;
-          order_is = z.shared.order-is ∙ laid_refused 0 o k _ _ e;
+          order_is = z.shared.order_is ∙ laid_refused 0 o k _ _ e;
           weights_are = z.shared.weights_are ∙ laid_refused pz o k _ _ e;
           correlations_are = z.correlations_are ∙ laid_refused pz o k _ _ e;
           distances_are = z.distances_are ∙ laid_refused pz o k _ _ e;

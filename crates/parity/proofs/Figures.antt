@@ -7,7 +7,7 @@ use lib.Count.{count_trailing_zeros}
 use lib.Dec.{eqb}
 use lib.Ieee.{Float, binary64, size, span as ieee-span, climb, odd, units, round, neg, add, sum, sub, mul, div, lt, le, eq, is_nan, of_fields, of_bits, to_bits}
 use Rattle.arithmetic.specs.Constants.{pz}
-use Rattle.arithmetic.specs.Arithmetic.{min_of, max_of, abs_of, clamp_of, count_of}
+use Rattle.arithmetic.specs.Arithmetic.{min_of, max_of, abs_of, clamp_of}
 use Rattle.arithmetic.specs.Root.{isqrt, root}
 use Rattle.refusal.specs.Refusal.{number_of}
 use Rattle.refusal.specs.Table.{first}
@@ -24,7 +24,7 @@ use Rattle.linkage.specs.Merge.{ward_f, update_f, pair_before, near, better, off
 use Rattle.linkage.specs.declared.Distance.{Distance}
 use Rattle.linkage.specs.declared.Distance.TheVariants.{Correlation, DistanceOfDistances}
 use Rattle.arranging.specs.Arranging.{distances_in, tree_rows, tree_order}
-use Rattle.clusters.specs.Clusters.{recip, recip_sum, shares, term, variance_of, outside, any_listed_low as anyLowOf, risk_table, size_table, variance_outcome, variance_answer}
+use Rattle.clusters.specs.Clusters.{recip, recip_sum, shares, term, variance_of, outside, any_listed_low as any_low_of, risk_table, size_table, variance_outcome, variance_answer}
 use Rattle.clusters.specs.Shares.{is_none, weights_in}
 use Rattle.bisection.specs.Bisection.{factor_of, sides_factor, halved, bisected, normal, bisection_shares}
 use Rattle.parity.specs.Parity.{ParityRoom, correlations_of, hrp_distances, tree_distances, hrp_rows, hrp_order, hrp_shares, seriated_in, parity_room_lines, parity_judge_table, hrp_risk_lines, parity_table, parity_outcome, room_lines, square_lines}
@@ -122,5 +122,5 @@ refusals =
     ∷ []
 
 pub figures : all (of_scope Correlation) && all (of_scope DistanceOfDistances) && all others && all refusals ≡ true
-unfolding distances_in tree_rows tree_order correlations_of hrp_distances tree_distances hrp_rows hrp_order hrp_shares seriated_in parity_room_lines parity_judge_table hrp_risk_lines parity_table parity_outcome first laid over_limit other_length sizes tab grid sum_to sum_on sum_rows any_to range span is_none weights_in factor_of sides_factor halved bisected normal bisection_shares recip recip_sum shares term variance_of outside anyLowOf risk_table size_table variance_outcome variance_answer correlation_cell any_low clamped distance_of distance_cell off_diagonal square between between_cell ward_f update_f pair_before near better offer look scan_row scan_from scan_all both movable moved moved_all merged step copied start state_at merge_rows grow tree_at leaves seriated_cell min_of max_of abs_of clamp_of root isqrt lt le eq is_nan neg add sum sub mul div round units odd count_trailing_zeros size ieee-span climb of_fields of_bits to_bits room_lines square_lines
+unfolding distances_in tree_rows tree_order correlations_of hrp_distances tree_distances hrp_rows hrp_order hrp_shares seriated_in parity_room_lines parity_judge_table hrp_risk_lines parity_table parity_outcome first laid over_limit other_length sizes tab grid sum_to sum_on sum_rows any_to range span is_none weights_in factor_of sides_factor halved bisected normal bisection_shares recip recip_sum shares term variance_of outside any_low_of risk_table size_table variance_outcome variance_answer correlation_cell any_low clamped distance_of distance_cell off_diagonal square between between_cell ward_f update_f pair_before near better offer look scan_row scan_from scan_all both movable moved moved_all merged step copied start state_at merge_rows grow tree_at leaves seriated_cell min_of max_of abs_of clamp_of root isqrt lt le eq is_nan neg add sum sub mul div round units odd count_trailing_zeros size ieee-span climb of_fields of_bits to_bits room_lines square_lines
 figures = refl

@@ -24,7 +24,7 @@ fn work(
 ) -> Outcome
     requires { ParityReady said (length covariance.now) n
         (record {
-          rows = length rows.now;
+          rows = length rows.old;
           order = length order.old;
           weights = length weights.old;
           correlations = length correlations.old;
@@ -33,14 +33,14 @@ fn work(
         }) }
     ensures { ParityWorked said distance covariance.now n
         (record {
-          rows = length rows.entry.now;
+          rows = length rows.old;
           order = length order.old;
           weights = length weights.old;
           correlations = length correlations.old;
           distances = length distances.old;
           scratch = length scratch.old;
         })
-        result rows.exit.now order.new weights.new correlations.new distances.new scratch.new }
+        result rows.new order.new weights.new correlations.new distances.new scratch.new }
 {
     let Outcome::Done = said else {
         return said;
@@ -86,14 +86,14 @@ pub fn allocate_covariance(
 ) -> Outcome
     ensures { ParityAnswered distance covariance.now rows_in columns
         (record {
-          rows = length rows.entry.now;
+          rows = length rows.old;
           order = length order.old;
           weights = length weights.old;
           correlations = length seriated_correlations.old;
           distances = length seriated_distances.old;
           scratch = length scratch.old;
         })
-        result rows.exit.now order.new weights.new seriated_correlations.new seriated_distances.new scratch.new }
+        result rows.new order.new weights.new seriated_correlations.new seriated_distances.new scratch.new }
 {
     let said = rooms::judge_covariance(
         covariance.len(),

@@ -30,13 +30,15 @@ slice_bounds-far-end c =
     omega (arith, p.for_distances, c.corr_to_distances.auto.out)
 
 pub slice_bounds-far-end-2 : goal.slice_bounds-far-end-2
-slice_bounds-far-end-2 c = sym (length-take-le _ _ (slice_bounds-far-end c))
+slice_bounds-far-end-2 c =
+    let p = arrangeable _ _ _ _ (sym c.judge-said.ensures ∙ c.in-Done.is) in
+    sym (length-take-le _ _ (omega (arith, p.for_distances, c.corr_to_distances.auto.out)))
 
 pub link-requires : goal.link-requires
 link-requires c = let p = arrangeable _ _ _ _ (sym c.judge-said.ensures ∙ c.in-Done.is) in
     record {
       n_bound = p.wide;
-      d_len = length-take-le _ _ (slice_bounds-far-end c);
+      d_len = length-take-le _ _ (omega (arith, p.for_distances, c.corr_to_distances.auto.out));
       n_in_bounds = p.for_rows;
     }
 
@@ -66,7 +68,9 @@ slice_bounds-quasi_diagonalization-end c =
     omega (arith, p.for_rows, c.link.auto.rows)
 
 pub slice_bounds-quasi_diagonalization-end-2 : goal.slice_bounds-quasi_diagonalization-end-2
-slice_bounds-quasi_diagonalization-end-2 c = sym (length-take-le _ _ (slice_bounds-quasi_diagonalization-end c))
+slice_bounds-quasi_diagonalization-end-2 c =
+    let p = arrangeable _ _ _ _ (sym c.judge-said.ensures ∙ c.in-Done.is) in
+    sym (length-take-le _ _ (omega (arith, p.for_rows, c.link.auto.rows)))
 
 pub shape_of-rows : goal.shape_of-rows
 shape_of-rows c = c.link.auto.rows

@@ -13,19 +13,19 @@ use Rattle.arranging.proofs.link.Goals as goal
 
 pub link_between-requires : goal.link_between-requires
 link_between-requires c = record {
-      n_bound = c.requires.n_bound;
-      d_len = c.requires.d_len;
-      n_in_bounds = mul-le-mul c.if-n-le16.true c.if-n-le16.true;
-      n_in_bounds_2 = c.requires.n_in_bounds;
-    }
+  n_bound = c.requires.n_bound;
+  d_len = c.requires.d_len;
+  n_in_bounds = mul-le-mul c.if-n-le16.true c.if-n-le16.true;
+  n_in_bounds_2 = c.requires.n_in_bounds;
+}
 
 pub link_between-requires-else-n-le16 : goal.link_between-requires-else-n-le16
 link_between-requires-else-n-le16 c = record {
-      n_bound = c.requires.n_bound;
-      d_len = c.requires.d_len;
-      n_in_bounds = square_in _ c.requires.n_bound;
-      n_in_bounds_2 = c.requires.n_in_bounds;
-    }
+  n_bound = c.requires.n_bound;
+  d_len = c.requires.d_len;
+  n_in_bounds = square_in _ c.requires.n_bound;
+  n_in_bounds_2 = c.requires.n_in_bounds;
+}
 
 pub shape_of-rows-in-Correlation : goal.shape_of-rows-in-Correlation
 shape_of-rows-in-Correlation c = c.linkage_children.auto.out

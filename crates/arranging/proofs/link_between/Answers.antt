@@ -2,6 +2,7 @@
 use Prim.Native.Nat.{◌*◌}
 use mathlib.Core.Path.{sym, ap, ◌∙◌}
 use mathlib.Core.List.{List}
+use borrow.Author.Rules.{rules}
 use lib.ListN.{length}
 use lib.Seq.{length-take-le, length_front}
 use lib.Ieee.{Float}
@@ -16,7 +17,7 @@ pub slice_bounds-distance_of_distances-end-2 : goal.slice_bounds-distance_of_dis
 slice_bounds-distance_of_distances-end-2 c = sym (length-take-le _ _ c.requires.n_in_bounds)
 
 pub slice_bounds-linkage_children-end-2 : goal.slice_bounds-linkage_children-end-2
-slice_bounds-linkage_children-end-2 c = sym (length-take-le _ _ (slice_bounds-linkage_children-end c))
+slice_bounds-linkage_children-end-2 c = sym (length-take-le _ _ (search rules))
 
 pub shape_of-room : goal.shape_of-room
 shape_of-room c = length_front c.args.room.now c.distance_of_distances.new.out (c.args.n * c.args.n) c.distance_of_distances.auto.out

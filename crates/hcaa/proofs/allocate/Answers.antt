@@ -6,9 +6,9 @@ use Rattle.hcaa.proofs.allocate.Goals as goal
 
 pub gather_returns-got-requires : goal.gather_returns-got-requires
 gather_returns-got-requires c = record {
-      out_len = refl;
-      sources = sources _ _ _ _ _ _ _ _ _ _ c.judge-said.ensures;
-    }
+  out_len = refl;
+  sources = sources _ _ _ _ _ _ _ _ _ _ c.judge-said.ensures;
+}
 
 pub shape_of-rows-in_default : goal.shape_of-rows-in_default
 shape_of-rows-in_default c = c.clear_all.auto.rows
@@ -29,39 +29,39 @@ pub slice_bounds-made-end : goal.slice_bounds-made-end
 slice_bounds-made-end c = part_in _ _ _ c.gather_returns-got.auto.out (cells_in (ready _ _ _ _ _ _ _ _ _ _ _ _ _ _ _ _ _ _ _ c.wanted_by-wanted.ensures c.judge-said.ensures c.gather_returns-got.ensures c.judge_gathered-said.ensures c.in-Done.is _ c.height_of-height.ensures))
 
 pub overflow_mul-cells : goal.overflow_mul-cells
-overflow_mul-cells c = part_word _ _ c.gather_returns-got.auto.out (slice_bounds-made-end c)
+overflow_mul-cells c = part_word _ _ c.gather_returns-got.auto.out (part_in _ _ _ c.gather_returns-got.auto.out (cells_in (ready _ _ _ _ _ _ _ _ _ _ _ _ _ _ _ _ _ _ _ c.wanted_by-wanted.ensures c.judge-said.ensures c.gather_returns-got.ensures c.judge_gathered-said.ensures c.in-Done.is _ c.height_of-height.ensures)))
 
 pub slice_bounds-held-end : goal.slice_bounds-held-end
-slice_bounds-held-end c = sym (length-take-le _ _ (slice_bounds-made-end c))
+slice_bounds-held-end c = sym (length-take-le _ _ (part_in _ _ _ c.gather_returns-got.auto.out (cells_in (ready _ _ _ _ _ _ _ _ _ _ _ _ _ _ _ _ _ _ _ c.wanted_by-wanted.ensures c.judge-said.ensures c.gather_returns-got.ensures c.judge_gathered-said.ensures c.in-Done.is _ c.height_of-height.ensures))))
 
 pub gather_covariance-requires : goal.gather_covariance-requires
 gather_covariance-requires c = let z = ready _ _ _ _ _ _ _ _ _ _ _ _ _ _ _ _ _ _ _ c.wanted_by-wanted.ensures c.judge-said.ensures c.gather_returns-got.ensures c.judge_gathered-said.ensures c.in-Done.is _ c.height_of-height.ensures in record {
-      out_len = refl;
-      n_value = z.sized;
-      coverable = z.coverable;
-    }
+  out_len = refl;
+  n_value = z.sized;
+  coverable = z.coverable;
+}
 
 pub gather_expected-hopes-requires : goal.gather_expected-hopes-requires
 gather_expected-hopes-requires c = let z = ready _ _ _ _ _ _ _ _ _ _ _ _ _ _ _ _ _ _ _ c.wanted_by-wanted.ensures c.judge-said.ensures c.gather_returns-got.ensures c.judge_gathered-said.ensures c.in-Done.is _ c.height_of-height.ensures in record {
-      out_len = refl;
-      n_value = z.sized;
-      hopeful = hopeful z _ c.wanted_by-wanted.ensures;
-    }
+  out_len = refl;
+  n_value = z.sized;
+  hopeful = hopeful z _ c.wanted_by-wanted.ensures;
+}
 
 pub slice_bounds-cov-end : goal.slice_bounds-cov-end
 slice_bounds-cov-end c = part_in _ _ _ c.gather_covariance.auto.out (area_in (ready _ _ _ _ _ _ _ _ _ _ _ _ _ _ _ _ _ _ _ c.wanted_by-wanted.ensures c.judge-said.ensures c.gather_returns-got.ensures c.judge_gathered-said.ensures c.in-Done.is _ c.height_of-height.ensures))
 
 pub overflow_mul-area : goal.overflow_mul-area
-overflow_mul-area c = part_word _ _ c.gather_covariance.auto.out (slice_bounds-cov-end c)
-
-pub slice_bounds-allocate_covariance-end : goal.slice_bounds-allocate_covariance-end
-slice_bounds-allocate_covariance-end c = sym (length-take-le _ _ (slice_bounds-cov-end c))
+overflow_mul-area c = part_word _ _ c.gather_covariance.auto.out (part_in _ _ _ c.gather_covariance.auto.out (area_in (ready _ _ _ _ _ _ _ _ _ _ _ _ _ _ _ _ _ _ _ c.wanted_by-wanted.ensures c.judge-said.ensures c.gather_returns-got.ensures c.judge_gathered-said.ensures c.in-Done.is _ c.height_of-height.ensures)))
 
 pub slice_bounds-hoped-end : goal.slice_bounds-hoped-end
 slice_bounds-hoped-end c = part_in _ _ _ c.gather_expected-hopes.auto.out (hopes_in (ready _ _ _ _ _ _ _ _ _ _ _ _ _ _ _ _ _ _ _ c.wanted_by-wanted.ensures c.judge-said.ensures c.gather_returns-got.ensures c.judge_gathered-said.ensures c.in-Done.is _ c.height_of-height.ensures) _ _ c.gather_expected-hopes.ensures.value)
 
+pub slice_bounds-allocate_covariance-end : goal.slice_bounds-allocate_covariance-end
+slice_bounds-allocate_covariance-end c = sym (length-take-le _ _ (part_in _ _ _ c.gather_covariance.auto.out (area_in (ready _ _ _ _ _ _ _ _ _ _ _ _ _ _ _ _ _ _ _ c.wanted_by-wanted.ensures c.judge-said.ensures c.gather_returns-got.ensures c.judge_gathered-said.ensures c.in-Done.is _ c.height_of-height.ensures))))
+
 pub slice_bounds-allocate_covariance-end-2 : goal.slice_bounds-allocate_covariance-end-2
-slice_bounds-allocate_covariance-end-2 c = sym (length-take-le _ _ (slice_bounds-hoped-end c))
+slice_bounds-allocate_covariance-end-2 c = sym (length-take-le _ _ (part_in _ _ _ c.gather_expected-hopes.auto.out (hopes_in (ready _ _ _ _ _ _ _ _ _ _ _ _ _ _ _ _ _ _ _ c.wanted_by-wanted.ensures c.judge-said.ensures c.gather_returns-got.ensures c.judge_gathered-said.ensures c.in-Done.is _ c.height_of-height.ensures) _ _ c.gather_expected-hopes.ensures.value)))
 
 pub shape_of-rows : goal.shape_of-rows
 shape_of-rows c = c.allocate_covariance.auto.rows

@@ -3,41 +3,30 @@ use mathlib.Core.Path.{refl}
 use Rattle.hcaa.proofs.Stages.{copied, hoped_fits, hoped_nothing, hoped_given, hoped_mean, hoped_exponential, hoped_unknown}
 use Rattle.hcaa.proofs.gather_expected.Goals as goal
 
+-- each clause, from a proof of all
+clauses : {A B : Type 0} → A × B → record { value : A; out_after : B }
+clauses p = record { value = p.0; out_after = p.1 }
+
 pub returns-in-Nothing : goal.returns-in-Nothing
-returns-in-Nothing c = record {
-      value = (hoped_nothing _ _ _ _ _ c.in-Nothing.is).0;
-      out_after = (hoped_nothing _ _ _ _ _ c.in-Nothing.is).1;
-    }
+returns-in-Nothing c = clauses (hoped_nothing _ _ _ _ _ c.in-Nothing.is)
 
 pub shape_of-out-in-Given : goal.shape_of-out-in-Given
 shape_of-out-in-Given c = c.copy.auto.to
 
 pub returns-in-Given : goal.returns-in-Given
-returns-in-Given c = record {
-      value = (hoped_given _ _ _ _ _ _ c.in-Given.is c.requires.hopeful (copied _ _ _ _ (hoped_fits _ _ _ _ _ _ c.requires.hopeful c.in-Given.is c.requires.out_len c.requires.n_value) c.copy.ensures refl)).0;
-      out_after = (hoped_given _ _ _ _ _ _ c.in-Given.is c.requires.hopeful (copied _ _ _ _ (hoped_fits _ _ _ _ _ _ c.requires.hopeful c.in-Given.is c.requires.out_len c.requires.n_value) c.copy.ensures refl)).1;
-    }
+returns-in-Given c = clauses (hoped_given _ _ _ _ _ _ c.in-Given.is c.requires.hopeful (copied _ _ _ _ (hoped_fits _ _ _ _ _ _ c.requires.hopeful c.in-Given.is c.requires.out_len c.requires.n_value) c.copy.ensures refl))
 
 pub shape_of-out-in-Mean : goal.shape_of-out-in-Mean
 shape_of-out-in-Mean c = c.mean_expected_returns.auto.out
 
 pub returns-in-Mean : goal.returns-in-Mean
-returns-in-Mean c = record {
-      value = (hoped_mean _ _ _ _ _ _ _ c.requires.out_len c.requires.n_value c.in-Mean.is c.mean_expected_returns.ensures.out_after).0;
-      out_after = (hoped_mean _ _ _ _ _ _ _ c.requires.out_len c.requires.n_value c.in-Mean.is c.mean_expected_returns.ensures.out_after).1;
-    }
+returns-in-Mean c = clauses (hoped_mean _ _ _ _ _ _ _ c.requires.out_len c.requires.n_value c.in-Mean.is c.mean_expected_returns.ensures.out_after)
 
 pub shape_of-out-in-Exponential : goal.shape_of-out-in-Exponential
 shape_of-out-in-Exponential c = c.exponential_expected_returns.auto.out
 
 pub returns-in-Exponential : goal.returns-in-Exponential
-returns-in-Exponential c = record {
-      value = (hoped_exponential _ _ _ _ _ _ _ c.requires.out_len c.requires.n_value c.in-Exponential.is c.exponential_expected_returns.ensures.out_after).0;
-      out_after = (hoped_exponential _ _ _ _ _ _ _ c.requires.out_len c.requires.n_value c.in-Exponential.is c.exponential_expected_returns.ensures.out_after).1;
-    }
+returns-in-Exponential c = clauses (hoped_exponential _ _ _ _ _ _ _ c.requires.out_len c.requires.n_value c.in-Exponential.is c.exponential_expected_returns.ensures.out_after)
 
 pub returns-in-Unknown : goal.returns-in-Unknown
-returns-in-Unknown c = record {
-      value = (hoped_unknown _ _ _ _ _ c.in-Unknown.is).0;
-      out_after = (hoped_unknown _ _ _ _ _ c.in-Unknown.is).1;
-    }
+returns-in-Unknown c = clauses (hoped_unknown _ _ _ _ _ c.in-Unknown.is)

@@ -8,10 +8,10 @@ use Rattle.hierarchy.proofs.allocate_covariance.Goals as goal
 
 pub plant-said-requires : goal.plant-said-requires
 plant-said-requires c = record {
-      tree_len = refl;
-      leaves_len = refl;
-      sown = sown _ _ _ _ _ _ c.judge-said.ensures;
-    }
+  tree_len = refl;
+  leaves_len = refl;
+  sown = sown _ _ _ _ _ _ c.judge-said.ensures;
+}
 
 pub shape_of-rows-in_default : goal.shape_of-rows-in_default
 shape_of-rows-in_default c = c.clear_all.auto.rows
@@ -38,7 +38,7 @@ pub slice_bounds-tree-end : goal.slice_bounds-tree-end
 slice_bounds-tree-end c = rows_in_tree _ _ _ _ _ _ _ _ _ _ _ c.judge-said.ensures c.plant-said.ensures c.in-Done.is c.plant-said.auto.tree
 
 pub slice_bounds-made-end : goal.slice_bounds-made-end
-slice_bounds-made-end c = sym (length-take-le _ _ (slice_bounds-tree-end c))
+slice_bounds-made-end c = sym (length-take-le _ _ (rows_in_tree _ _ _ _ _ _ _ _ _ _ _ c.judge-said.ensures c.plant-said.ensures c.in-Done.is c.plant-said.auto.tree))
 
 pub lay-requires : goal.lay-requires
 lay-requires c = rows_fit _ _ _ _ _ _ _ _ _ _ _ c.judge-said.ensures c.plant-said.ensures c.in-Done.is c.plant-said.auto.tree
@@ -47,7 +47,7 @@ pub slice_bounds-leaves-end : goal.slice_bounds-leaves-end
 slice_bounds-leaves-end c = order_in_leaves _ _ _ _ _ _ _ _ _ _ _ c.judge-said.ensures c.plant-said.ensures c.in-Done.is c.plant-said.auto.leaves
 
 pub slice_bounds-lay-end : goal.slice_bounds-lay-end
-slice_bounds-lay-end c = sym (length-take-le _ _ (slice_bounds-leaves-end c))
+slice_bounds-lay-end c = sym (length-take-le _ _ (order_in_leaves _ _ _ _ _ _ _ _ _ _ _ c.judge-said.ensures c.plant-said.ensures c.in-Done.is c.plant-said.auto.leaves))
 
 pub lay-requires-2 : goal.lay-requires-2
 lay-requires-2 c = order_fits _ _ _ _ _ _ _ _ _ _ _ c.judge-said.ensures c.plant-said.ensures c.in-Done.is c.plant-said.auto.leaves

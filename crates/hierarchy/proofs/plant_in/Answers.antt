@@ -26,9 +26,6 @@ returns-in_default c =
 pub slice_bounds-arrange-end : goal.slice_bounds-arrange-end
 slice_bounds-arrange-end c = omega (arith, c.requires.for_corr, length_front c.args.corr.now c.cov2corr.new.out (c.args.n * c.args.n) c.cov2corr.auto.out)
 
-pub slice_bounds-arrange-end-2 : goal.slice_bounds-arrange-end-2
-slice_bounds-arrange-end-2 c = sym (length-take-le _ _ (slice_bounds-arrange-end c))
-
 pub slice_bounds-arrange-end-3 : goal.slice_bounds-arrange-end-3
 slice_bounds-arrange-end-3 c = c.requires.for_scratch
 

@@ -27,11 +27,11 @@ shape_of-scratch-then-is_given c = c.allocate_covariance.auto.scratch
 
 pub returns-then-is_given : goal.returns-then-is_given
 returns-then-is_given c =
-    let j : HrpJob = record { assets = c.args.assets; prices = c.args.prices.now; prices_shape = c.args.prices_shape; returns-then-is_given = c.args.returns.now; returns_shape = c.args.returns_shape; covariance = c.args.covariance.now; covariance_shape = c.args.covariance_shape; resample_by = c.args.resample_by.now; use_shrinkage = c.args.use_shrinkage; distance = c.args.distance } in
+    let j : HrpJob = record { assets = c.args.assets; prices = c.args.prices.now; prices_shape = c.args.prices_shape; returns = c.args.returns.now; returns_shape = c.args.returns_shape; covariance = c.args.covariance.now; covariance_shape = c.args.covariance_shape; resample_by = c.args.resample_by.now; use_shrinkage = c.args.use_shrinkage; distance = c.args.distance } in
     ends_given j _ c.freq_step-step.ensures _ _ c.judge-said.ensures _ c.is_given.ensures c.if-is_given.true _ _ _ _ _ _ _ c.allocate_covariance.ensures
 
 pub gather-said-requires : goal.gather-said-requires
-gather-said-requires c = let j : HrpJob = record { assets = c.args.assets; prices = c.args.prices.now; prices_shape = c.args.prices_shape; returns-then-is_given = c.args.returns.now; returns_shape = c.args.returns_shape; covariance = c.args.covariance.now; covariance_shape = c.args.covariance_shape; resample_by = c.args.resample_by.now; use_shrinkage = c.args.use_shrinkage; distance = c.args.distance } in
+gather-said-requires c = let j : HrpJob = record { assets = c.args.assets; prices = c.args.prices.now; prices_shape = c.args.prices_shape; returns = c.args.returns.now; returns_shape = c.args.returns_shape; covariance = c.args.covariance.now; covariance_shape = c.args.covariance_shape; resample_by = c.args.resample_by.now; use_shrinkage = c.args.use_shrinkage; distance = c.args.distance } in
     record {
       out_len = refl;
       hrp_fitting = fitting j _ c.freq_step-step.ensures _ _ c.judge-said.ensures;
@@ -57,21 +57,23 @@ shape_of-scratch-in_default c = c.clear_with_matrices.auto.scratch
 
 pub returns-in_default : goal.returns-in_default
 returns-in_default c =
-    let j : HrpJob = record { assets = c.args.assets; prices = c.args.prices.now; prices_shape = c.args.prices_shape; returns-then-is_given = c.args.returns.now; returns_shape = c.args.returns_shape; covariance = c.args.covariance.now; covariance_shape = c.args.covariance_shape; resample_by = c.args.resample_by.now; use_shrinkage = c.args.use_shrinkage; distance = c.args.distance } in
+    let j : HrpJob = record { assets = c.args.assets; prices = c.args.prices.now; prices_shape = c.args.prices_shape; returns = c.args.returns.now; returns_shape = c.args.returns_shape; covariance = c.args.covariance.now; covariance_shape = c.args.covariance_shape; resample_by = c.args.resample_by.now; use_shrinkage = c.args.use_shrinkage; distance = c.args.distance } in
     ends_refused j _ c.freq_step-step.ensures _ _ c.judge-said.ensures _ _ c.gather-said.ensures _ _ _ _ _ _ _ c.in_default.is c.clear_with_matrices.ensures
 
 pub overflow_mul-m : goal.overflow_mul-m
 overflow_mul-m c =
-    let j : HrpJob = record { assets = c.args.assets; prices = c.args.prices.now; prices_shape = c.args.prices_shape; returns-then-is_given = c.args.returns.now; returns_shape = c.args.returns_shape; covariance = c.args.covariance.now; covariance_shape = c.args.covariance_shape; resample_by = c.args.resample_by.now; use_shrinkage = c.args.use_shrinkage; distance = c.args.distance } in
+    let j : HrpJob = record { assets = c.args.assets; prices = c.args.prices.now; prices_shape = c.args.prices_shape; returns = c.args.returns.now; returns_shape = c.args.returns_shape; covariance = c.args.covariance.now; covariance_shape = c.args.covariance_shape; resample_by = c.args.resample_by.now; use_shrinkage = c.args.use_shrinkage; distance = c.args.distance } in
     omega (arith, square_in _ (few_assets j _ c.freq_step-step.ensures _ _ c.judge-said.ensures _ _ c.gather-said.ensures c.in-Done.is))
 
 pub slice_bounds-made-end : goal.slice_bounds-made-end
 slice_bounds-made-end c =
-    let j : HrpJob = record { assets = c.args.assets; prices = c.args.prices.now; prices_shape = c.args.prices_shape; returns-then-is_given = c.args.returns.now; returns_shape = c.args.returns_shape; covariance = c.args.covariance.now; covariance_shape = c.args.covariance_shape; resample_by = c.args.resample_by.now; use_shrinkage = c.args.use_shrinkage; distance = c.args.distance } in
+    let j : HrpJob = record { assets = c.args.assets; prices = c.args.prices.now; prices_shape = c.args.prices_shape; returns = c.args.returns.now; returns_shape = c.args.returns_shape; covariance = c.args.covariance.now; covariance_shape = c.args.covariance_shape; resample_by = c.args.resample_by.now; use_shrinkage = c.args.use_shrinkage; distance = c.args.distance } in
     omega (arith, square_in _ (few_assets j _ c.freq_step-step.ensures _ _ c.judge-said.ensures _ _ c.gather-said.ensures c.in-Done.is), c.gather-said.auto.out)
 
 pub slice_bounds-allocate_covariance-end : goal.slice_bounds-allocate_covariance-end
-slice_bounds-allocate_covariance-end c = sym (length-take-le _ _ (slice_bounds-made-end c))
+slice_bounds-allocate_covariance-end c =
+    let j : HrpJob = record { assets = c.args.assets; prices = c.args.prices.now; prices_shape = c.args.prices_shape; returns = c.args.returns.now; returns_shape = c.args.returns_shape; covariance = c.args.covariance.now; covariance_shape = c.args.covariance_shape; resample_by = c.args.resample_by.now; use_shrinkage = c.args.use_shrinkage; distance = c.args.distance } in
+    sym (length-take-le _ _ (omega (arith, square_in _ (few_assets j _ c.freq_step-step.ensures _ _ c.judge-said.ensures _ _ c.gather-said.ensures c.in-Done.is), c.gather-said.auto.out)))
 
 pub shape_of-rows : goal.shape_of-rows
 shape_of-rows c = c.allocate_covariance-2.auto.rows
@@ -93,5 +95,5 @@ shape_of-scratch c = c.allocate_covariance-2.auto.scratch
 
 pub returns : goal.returns
 returns c =
-    let j : HrpJob = record { assets = c.args.assets; prices = c.args.prices.now; prices_shape = c.args.prices_shape; returns-then-is_given = c.args.returns.now; returns_shape = c.args.returns_shape; covariance = c.args.covariance.now; covariance_shape = c.args.covariance_shape; resample_by = c.args.resample_by.now; use_shrinkage = c.args.use_shrinkage; distance = c.args.distance } in
+    let j : HrpJob = record { assets = c.args.assets; prices = c.args.prices.now; prices_shape = c.args.prices_shape; returns = c.args.returns.now; returns_shape = c.args.returns_shape; covariance = c.args.covariance.now; covariance_shape = c.args.covariance_shape; resample_by = c.args.resample_by.now; use_shrinkage = c.args.use_shrinkage; distance = c.args.distance } in
     ends_made j _ c.freq_step-step.ensures _ _ c.judge-said.ensures _ _ c.gather-said.ensures _ _ _ _ _ _ _ c.is_given.ensures c.if-is_given.false _ c.in-Done.is c.allocate_covariance-2.ensures

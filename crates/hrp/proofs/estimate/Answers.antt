@@ -12,7 +12,7 @@ pub slice_bounds-plain-end : goal.slice_bounds-plain-end
 slice_bounds-plain-end c = omega (arith, cells_fit _ _ _ c.requires.n_value, c.covariance.auto.out)
 
 pub slice_bounds-shrink_covariance-end : goal.slice_bounds-shrink_covariance-end
-slice_bounds-shrink_covariance-end c = sym (length-take-le _ _ (slice_bounds-plain-end c))
+slice_bounds-shrink_covariance-end c = sym (length-take-le _ _ (omega (arith, cells_fit _ _ _ c.requires.n_value, c.covariance.auto.out)))
 
 pub shape_of-out-then-use_shrinkage : goal.shape_of-out-then-use_shrinkage
 shape_of-out-then-use_shrinkage c = c.shrink_covariance.auto.out

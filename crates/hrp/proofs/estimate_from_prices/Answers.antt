@@ -12,13 +12,13 @@ pub slice_bounds-made-end : goal.slice_bounds-made-end
 slice_bounds-made-end c = omega (arith, returns_fit _ _ _ _ c.requires.n_value _ c.sampled_returns.ensures.value _ _ _ c.in-Matrix.is c.sampled_returns.ensures.out_after, c.sampled_returns.auto.out)
 
 pub slice_bounds-estimate-end : goal.slice_bounds-estimate-end
-slice_bounds-estimate-end c = sym (length-take-le _ _ (slice_bounds-made-end c))
+slice_bounds-estimate-end c = sym (length-take-le _ _ (omega (arith, returns_fit _ _ _ _ c.requires.n_value _ c.sampled_returns.ensures.value _ _ _ c.in-Matrix.is c.sampled_returns.ensures.out_after, c.sampled_returns.auto.out)))
 
 pub estimate-requires : goal.estimate-requires
 estimate-requires c = record {
-      n_value = returns_pass _ _ _ _ c.requires.n_value _ c.sampled_returns.ensures.value _ _ _ c.in-Matrix.is c.sampled_returns.ensures.out_after;
-      out_len = c.requires.out_len;
-    }
+  n_value = returns_pass _ _ _ _ c.requires.n_value _ c.sampled_returns.ensures.value _ _ _ c.in-Matrix.is c.sampled_returns.ensures.out_after;
+  out_len = c.requires.out_len;
+}
 
 pub shape_of-out : goal.shape_of-out
 shape_of-out c = c.estimate.auto.out

@@ -1,7 +1,8 @@
 -- `parity::work` meets its contract. Assumes nothing.
-use Prim.Native.Nat.{◌*◌}
+use Prim.Native.Nat.{◌*◌, ◌≤◌}
 use mathlib.Core.Path.{sym, ◌∙◌}
 use native.Mathlib.Omega.{arith}
+use lib.ListN.{length}
 use lib.Seq.{length-take-le, length_front}
 use Rattle.lent.proofs.Laws.{square_in}
 use Rattle.parity.proofs.Laws.{length_alike, low_said, correlations_front}
@@ -31,7 +32,9 @@ slice_bounds-alike-end c =
     omega (arith, p.for_distances, c.cov2corr.auto.out)
 
 pub slice_bounds-alike-end-2 : goal.slice_bounds-alike-end-2
-slice_bounds-alike-end-2 c = sym (length-take-le _ _ (slice_bounds-alike-end c))
+slice_bounds-alike-end-2 c =
+    let p = c.requires.sized c.in-Done.is in
+    sym (length-take-le _ _ (omega (arith, p.for_distances, c.cov2corr.auto.out)))
 
 pub slice_bounds-arrange-end : goal.slice_bounds-arrange-end
 slice_bounds-arrange-end c =
@@ -39,7 +42,9 @@ slice_bounds-arrange-end c =
     omega (arith, square_in _ p.few, p.for_scratch)
 
 pub slice_bounds-arrange-end-2 : goal.slice_bounds-arrange-end-2
-slice_bounds-arrange-end-2 c = sym (length-take-le _ _ (slice_bounds-arrange-end c))
+slice_bounds-arrange-end-2 c =
+    let p = c.requires.sized c.in-Done.is in
+    sym (length-take-le _ _ (omega (arith, square_in _ p.few, p.for_scratch)))
 
 pub slice_bounds-leaves-end : goal.slice_bounds-leaves-end
 slice_bounds-leaves-end c =
@@ -47,7 +52,9 @@ slice_bounds-leaves-end c =
     omega (arith, p.for_order, c.arrange.auto.order)
 
 pub slice_bounds-leaves-end-2 : goal.slice_bounds-leaves-end-2
-slice_bounds-leaves-end-2 c = sym (length-take-le _ _ (slice_bounds-leaves-end c))
+slice_bounds-leaves-end-2 c =
+    let p = c.requires.sized c.in-Done.is in
+    sym (length-take-le _ _ (omega (arith, p.for_order, c.arrange.auto.order)))
 
 pub slice_bounds-far-end : goal.slice_bounds-far-end
 slice_bounds-far-end c =
@@ -55,7 +62,9 @@ slice_bounds-far-end c =
     omega (arith, square_in _ p.few, p.for_scratch, length_front c.args.scratch.now c.arrange.new.distances (c.args.n * c.args.n) c.arrange.auto.distances)
 
 pub slice_bounds-far-end-2 : goal.slice_bounds-far-end-2
-slice_bounds-far-end-2 c = sym (length-take-le _ _ (slice_bounds-far-end c))
+slice_bounds-far-end-2 c =
+    let p = c.requires.sized c.in-Done.is in
+    sym (length-take-le _ _ (omega (arith, square_in _ p.few, p.for_scratch, length_front c.args.scratch.now c.arrange.new.distances (c.args.n * c.args.n) c.arrange.auto.distances)))
 
 pub shape_of-rows : goal.shape_of-rows
 shape_of-rows c = c.arrange.auto.rows
@@ -80,4 +89,5 @@ returns c =
     let p = c.requires.sized c.in-Done.is in
     let low = low_said c.args.n p.some p.few c.args.covariance.now p.cells _ p.for_distances _ _ c.cov2corr.ensures.value c.told-low.ensures in
     let q = correlations_front c.args.n p.some p.few c.args.covariance.now p.cells _ p.for_distances _ _ c.cov2corr.ensures.value c.told-low.ensures _ c.in-Done-low.is c.cov2corr.ensures.out_after in
-    worked_done c.args.distance c.args.covariance.now c.args.n _ _ _ _ _ _ _ _ p _ _ _ q (length_alike c.args.covariance.now _ c.args.n q) _ (length-take-le _ _ (slice_bounds-arrange-end c)) c.arrange.auto.distances _ c.arrange.ensures _ _ _ c.in-Done.is low c.in-Done-low.is c.seriate_matrix.ensures.out_after _ c.cov2corr.auto.out c.seriate_matrix-2.ensures.out_after _ (length_front c.args.scratch.now c.arrange.new.distances (c.args.n * c.args.n) c.arrange.auto.distances) c.clear.ensures c.recursive_bisection_min_var.ensures.value c.told.ensures c.recursive_bisection_min_var.ensures.out_after
+    let m : c.args.n * c.args.n ≤ length c.args.scratch.now = omega (arith, square_in _ p.few, p.for_scratch) in
+    worked_done c.args.distance c.args.covariance.now c.args.n _ _ _ _ _ _ _ _ p _ _ _ q (length_alike c.args.covariance.now _ c.args.n q) _ (length-take-le _ _ m) c.arrange.auto.distances _ c.arrange.ensures _ _ _ c.in-Done.is low c.in-Done-low.is c.seriate_matrix.ensures.out_after _ c.cov2corr.auto.out c.seriate_matrix-2.ensures.out_after _ (length_front c.args.scratch.now c.arrange.new.distances (c.args.n * c.args.n) c.arrange.auto.distances) c.clear.ensures c.recursive_bisection_min_var.ensures.value c.told.ensures c.recursive_bisection_min_var.ensures.out_after
