@@ -6,7 +6,6 @@ use Rattle.tree.specs.Tree.{Tree, leaf, fork, tree_at}
 use Rattle.tree.specs.Inner.{OnTree}
 use Rattle.branches.specs.Summary.{part_of}
 use Rattle.listing.specs.Inner.{Named}
-use Rattle.groups.specs.declared.Group.{Group}
 use Rattle.groups.specs.Groups.{group_line}
 
 -- a node, then the nodes of its left child's tree, then those of its right child's

@@ -386,8 +386,8 @@ pub fn read_job(
     starts: &mut [usize],
     ceilings: &mut [usize],
 ) -> Reading
-    ensures { JobRead text.now (record { cells = length cells.entry.now; starts = length starts.old; ceilings = length ceilings.old })
-        result cells.exit.now starts.new ceilings.new }
+    ensures { JobRead text.now (record { cells = length cells.old; starts = length starts.old; ceilings = length ceilings.old })
+        result cells.new starts.new ceilings.new }
 {
     let said = judge(text.len(), cells.len(), starts.len(), ceilings.len());
     lent::clear_from(cells, 0);

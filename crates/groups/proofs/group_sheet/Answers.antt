@@ -15,9 +15,9 @@ slice_bounds-put_sheet-end c = sym (length-take-le _ _ (omega (arith, c.figures-
 
 pub put_sheet-requires : goal.put_sheet-requires
 put_sheet-requires c = record {
-      sheetable = sheetable _ _ _ _ _ _ _ _ _ _ c.judge-judged.ensures c.figures-parted.ensures.value c.and_then-said.ensures c.in-Done.is _ c.figures-parted.ensures.out_after;
-      named_in_bounds = room_holds _ _ _ _ _ _ _ _ _ _ c.judge-judged.ensures c.figures-parted.ensures.value c.and_then-said.ensures c.in-Done.is _ c.figures-parted.ensures.out_after _ c.clear_bytes_from.auto.out;
-    }
+  sheetable = sheetable _ _ _ _ _ _ _ _ _ _ c.judge-judged.ensures c.figures-parted.ensures.value c.and_then-said.ensures c.in-Done.is _ c.figures-parted.ensures.out_after;
+  named_in_bounds = room_holds _ _ _ _ _ _ _ _ _ _ c.judge-judged.ensures c.figures-parted.ensures.value c.and_then-said.ensures c.in-Done.is _ c.figures-parted.ensures.out_after _ c.clear_bytes_from.auto.out;
+}
 
 pub shape_of-out-in-Done : goal.shape_of-out-in-Done
 shape_of-out-in-Done c = c.put_sheet.auto.out ∙ c.clear_bytes_from.auto.out

@@ -5,7 +5,7 @@ use Rattle.groups.specs.Groups.{indent}
 use Rattle.groups.proofs.put_indent.Given as goal
 
 abbrev pub invariant-loop-i : goal.invariant-loop-i
-invariant-loop-i l = (i ≤ l.depth) × Wrote l.initial.out l.at (indent i) l.end l.i
+invariant-loop-i l = (l.i ≤ l.depth) × Wrote l.initial.out l.at (indent l.i) l.out l.end
 
 abbrev pub decreases-loop-i : goal.decreases-loop-i
-decreases-loop-i l = l.depth - i
+decreases-loop-i l = l.depth - l.i

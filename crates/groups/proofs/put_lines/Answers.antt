@@ -37,10 +37,10 @@ bounds-totals-v c = c.requires.lined.summed _ c.loop-i-test.true
 
 pub put_line-at-requires : goal.put_line-at-requires
 put_line-at-requires c = record {
-      named = c.requires.named;
-      depth_bound = c.requires.lined.low _ c.loop-i-test.true;
-      named_in_bounds = lines_room _ _ c.requires.lined c.requires.named.short _ _ c.loop-i-test.true c.requires.named_in_bounds c.loop-i.invariant.1;
-    }
+  named = c.requires.named;
+  depth_bound = c.requires.lined.low _ c.loop-i-test.true;
+  named_in_bounds = lines_room _ _ c.requires.lined c.requires.named.short _ _ c.loop-i-test.true c.requires.named_in_bounds c.loop-i.invariant.1;
+}
 
 pub overflow_add-i : goal.overflow_add-i
 overflow_add-i c = omega arith

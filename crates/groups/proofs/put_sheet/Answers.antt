@@ -31,10 +31,10 @@ slice_bounds-put_lines-end c = sym (length-take-le _ _ (omega (arith, c.nodes_be
 
 pub put_lines-requires : goal.put_lines-requires
 put_lines-requires c = record {
-      named = c.requires.sheetable.named;
-      lined = lined c.requires.sheetable _ _ _ _ _ c.summarize.ensures.value c.summarize.ensures.firsts_after c.summarize.ensures.sizes_after c.summarize.ensures.depths_after c.quasi_diagonalization.ensures.out_after _ _ _ c.put_totals.ensures c.nodes_below-lines.ensures;
-      named_in_bounds = c.requires.named_in_bounds;
-    }
+  named = c.requires.sheetable.named;
+  lined = lined c.requires.sheetable _ _ _ _ _ c.summarize.ensures.value c.summarize.ensures.firsts_after c.summarize.ensures.sizes_after c.summarize.ensures.depths_after c.quasi_diagonalization.ensures.out_after _ _ _ c.put_totals.ensures c.nodes_below-lines.ensures;
+  named_in_bounds = c.requires.named_in_bounds;
+}
 
 pub shape_of-out : goal.shape_of-out
 shape_of-out c = c.put_lines.auto.out

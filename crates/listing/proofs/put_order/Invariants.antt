@@ -1,6 +1,5 @@
 -- What the loops of `listing::put_order` keep true, and what falls. Assumes nothing.
 use Prim.Native.Nat.{◌-◌, ◌≤◌}
-use mathlib.Core.List.{[]}
 use lib.ListN.{length}
 use Rattle.writing.specs.Writing.{joined, Wrote}
 use Rattle.listing.specs.Listing.{ordered, name_in}

@@ -2,7 +2,6 @@
 use mathlib.Core.Path.{sym}
 use native.Mathlib.Nat.{le_trans}
 use native.Mathlib.Omega.{arith}
-use borrow.Author.Tests.{not-true, not-false}
 use Rattle.reading.proofs.Blocks.{front_length, held_few, prices_wanted, covariance_wanted, covariance_short, covariance_asked, covariance_bad, covariance_good}
 use Rattle.reading.proofs.read_block.Goals as goal
 
@@ -42,23 +41,17 @@ read_lines-requires c =
 pub shape_of-cells-then-not-read_lines : goal.shape_of-cells-then-not-read_lines
 shape_of-cells-then-not-read_lines c = c.read_lines.auto.cells
 
-pub shape_of-starts-then-not-read_lines : goal.shape_of-starts-then-not-read_lines
-shape_of-starts-then-not-read_lines c = c.starts-2-1.given.1
-
 pub returns-then-not-read_lines : goal.returns-then-not-read_lines
 returns-then-not-read_lines c =
     let a = covariance_wanted c.requires c.if-daily.false in
     let f = le_trans (held_few _ _ _ c.held-w.ensures) c.requires.placed in
-    covariance_bad _ _ _ _ _ _ a _ c.held-w.ensures _ _ _ _ _ _ (sym (front_length _ _ f)) c.read_lines.ensures (not-true _ c.if-not-read_lines.true) _
+    covariance_bad _ _ _ _ _ _ a _ c.held-w.ensures _ _ _ _ _ _ (sym (front_length _ _ f)) c.read_lines.ensures c.if-not-read_lines.true _
 
 pub shape_of-cells : goal.shape_of-cells
 shape_of-cells c = c.read_lines.auto.cells
-
-pub shape_of-starts : goal.shape_of-starts
-shape_of-starts c = c.starts-2-1.given.1
 
 pub returns : goal.returns
 returns c =
     let a = covariance_wanted c.requires c.if-daily.false in
     let f = le_trans (held_few _ _ _ c.held-w.ensures) c.requires.placed in
-    covariance_good _ _ _ _ _ _ a _ c.held-w.ensures _ _ _ _ _ _ (sym (front_length _ _ f)) c.read_lines.ensures (not-false _ c.if-not-read_lines.false)
+    covariance_good _ _ _ _ _ _ a _ c.held-w.ensures _ _ _ _ _ _ (sym (front_length _ _ f)) c.read_lines.ensures c.if-not-read_lines.false

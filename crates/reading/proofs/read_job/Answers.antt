@@ -1,6 +1,5 @@
 -- `reading::read_job` meets its contract. Assumes nothing.
 use mathlib.Core.Path.{sym, ap, ◌∙◌}
-use mathlib.Core.Logic.{⊎_elim}
 use native.Mathlib.Omega.{arith}
 use Rattle.arithmetic.specs.Constants.{pz}
 use Rattle.lent.specs.Grid.{zeros, noughts}
@@ -28,9 +27,9 @@ pub read_text-read-requires : goal.read_text-read-requires
 read_text-read-requires c = let f = sizes_fit _ _ (sym c.judge-said.ensures ∙ c.in_default.is) in
     record {
       text_len_bound = f.short;
-      in_bounds = omega (arith, f.roomy, c.cells-1.given);
-      in_bounds_2 = omega (arith, f.placed, c.starts-1.given);
-      in_bounds_3 = omega (arith, f.limits, c.ceilings-1.given);
+      in_bounds = omega (arith, f.roomy);
+      in_bounds_2 = omega (arith, f.placed);
+      in_bounds_3 = omega (arith, f.limits);
     }
 
 pub shape_of-cells-in_default-read : goal.shape_of-cells-in_default-read
@@ -45,7 +44,7 @@ shape_of-ceilings-in_default-read c = c.read_text-read.auto.ceilings ∙ c.clear
 pub returns-in_default-read : goal.returns-in_default-read
 returns-in_default-read c =
     ends_done _ _ _ c.judge-said.ensures _ _ _ _ _ _ _ c.in_default.is c.read_text-read.ensures
-    (λ k e. ⊎_elim (λ h. omega arith) (λ h. omega arith) (rw e at c.in_default-read.keys2))
+    (λ k e. c.in_default-read.not-Refused k e)
     (record {
       cells = cleared pz c.args.cells.now _ c.clear_from.ensures;
       starts = cleared 0 c.args.starts.now _ c.clear_numbers_from.ensures;
@@ -64,7 +63,7 @@ shape_of-ceilings c = c.clear_numbers-2.auto.out ∙ c.read_text-read.auto.ceili
 pub returns : goal.returns
 returns c =
     ends_refused _ _ _ c.judge-said.ensures _ _ _ _ _ _ _ c.in_default.is c.read_text-read.ensures _ _ _ _ c.in-Refused-read.is (record {
-      cells = c.clear.ensures ∙ ap zeros (c.cells-2-1.given ∙ c.cells-1.given);
-      starts = c.clear_numbers.ensures ∙ ap noughts (c.starts-2-1.given ∙ c.starts-1.given);
-      ceilings = c.clear_numbers-2.ensures ∙ ap noughts (c.ceilings-2-1.given ∙ c.ceilings-1.given);
+      cells = c.clear.ensures ∙ ap zeros (omega arith);
+      starts = c.clear_numbers.ensures ∙ ap noughts (omega arith);
+      ceilings = c.clear_numbers-2.ensures ∙ ap noughts (omega arith);
     })

@@ -1,9 +1,14 @@
 -- `reading::read_names` meets its contract. `Naming` says where the walk over the fields stands. Assumes nothing.
-use mathlib.Core.Path.{sym, ◌∙◌}
+use Prim.Native.Nat.{ℕ, ◌+◌}
+use mathlib.Core.Logic.{inl, inr}
+use lib.ListN.{length}
+use Rattle.reading.specs.Reading.{start_of}
+use Rattle.reading.proofs.Front.{Front, front_step}
+use mathlib.Core.Path.{◌≡◌, ap, sym, ◌∙◌}
 use native.Mathlib.Omega.{arith}
-use borrow.Author.Tests.{not-true, not-false}
 use Rattle.reading.proofs.Walk.{field_within, naming_start, names_bad, naming_step, names_end}
 use Rattle.reading.proofs.read_names.Goals as goal
+use Rattle.reading.proofs.read_names.Goals.{then-i-starts, else-i-starts}
 
 pub loop-at-init : goal.loop-at-init
 loop-at-init c = naming_start _ _ _
@@ -24,11 +29,16 @@ pub slice_bounds-is_name-end : goal.slice_bounds-is_name-end
 slice_bounds-is_name-end c = omega (arith, field_within c.loop-at.invariant.walk c.loop-at-test.true _ c.end_of-e.ensures)
 
 pub shape_of-starts-then-not-is_name : goal.shape_of-starts-then-not-is_name
-shape_of-starts-then-not-is_name c = (came c).0 ∙ c.loop-at.invariant.sized
+shape_of-starts-then-not-is_name c =
+    let came : (length c.if-i-starts.starts ≡ length c.loop-at.starts) × Front 0 (λ k. c.args.from + start_of 9 c.args.line.now k) (c.loop-at.i + 1) c.if-i-starts.starts =
+    front_step 0 _ _ _ _ _ c.loop-at.invariant.front (ap (λ (k : ℕ). c.args.from + k) c.loop-at.invariant.walk.begun) (elim c.if-i-starts.branch [ then-i-starts t ↦ inl (t.if-i-starts.true, t.starts-is) | else-i-starts t ↦ inr (t.if-i-starts.false, t.starts-is) ]) in
+    came.0 ∙ c.loop-at.invariant.sized
 
 pub returns-then-not-is_name : goal.returns-then-not-is_name
 returns-then-not-is_name c =
-    names_bad c.loop-at.invariant c.loop-at-test.true _ c.end_of-e.ensures _ (came j).0 (sym c.is_name.ensures ∙ not-true _ c.if-not-is_name.true)
+    let came : (length c.if-i-starts.starts ≡ length c.loop-at.starts) × Front 0 (λ k. c.args.from + start_of 9 c.args.line.now k) (c.loop-at.i + 1) c.if-i-starts.starts =
+    front_step 0 _ _ _ _ _ c.loop-at.invariant.front (ap (λ (k : ℕ). c.args.from + k) c.loop-at.invariant.walk.begun) (elim c.if-i-starts.branch [ then-i-starts t ↦ inl (t.if-i-starts.true, t.starts-is) | else-i-starts t ↦ inr (t.if-i-starts.false, t.starts-is) ]) in
+    names_bad c.loop-at.invariant c.loop-at-test.true _ c.end_of-e.ensures _ came.0 (sym c.is_name.ensures ∙ c.if-not-is_name.true)
 
 pub overflow_add-at : goal.overflow_add-at
 overflow_add-at c = omega (arith, field_within c.loop-at.invariant.walk c.loop-at-test.true _ c.end_of-e.ensures, c.requires.line_bound)
@@ -41,7 +51,9 @@ loop-at-smaller c = omega (arith, field_within c.loop-at.invariant.walk c.loop-a
 
 pub loop-at-preserved : goal.loop-at-preserved
 loop-at-preserved c =
-    naming_step c.loop-at.invariant c.loop-at-test.true _ c.end_of-e.ensures _ (came j).0 (sym c.is_name.ensures ∙ not-false _ c.if-not-is_name.false) (came j).1
+    let came : (length c.if-i-starts.starts ≡ length c.loop-at.starts) × Front 0 (λ k. c.args.from + start_of 9 c.args.line.now k) (c.loop-at.i + 1) c.if-i-starts.starts =
+    front_step 0 _ _ _ _ _ c.loop-at.invariant.front (ap (λ (k : ℕ). c.args.from + k) c.loop-at.invariant.walk.begun) (elim c.if-i-starts.branch [ then-i-starts t ↦ inl (t.if-i-starts.true, t.starts-is) | else-i-starts t ↦ inr (t.if-i-starts.false, t.starts-is) ]) in
+    naming_step c.loop-at.invariant c.loop-at-test.true _ c.end_of-e.ensures _ came.0 (sym c.is_name.ensures ∙ c.if-not-is_name.false) came.1
 
 pub shape_of-starts : goal.shape_of-starts
 shape_of-starts c = c.loop-at.invariant.sized

@@ -3,7 +3,6 @@ use Prim.Native.Nat.{◌-◌, ◌≤◌}
 use mathlib.Core.Path.{refl, sym, ap, ◌∙◌}
 use native.Mathlib.Nat.{le_trans, le_of_eq}
 use native.Mathlib.Omega.{arith}
-use borrow.Author.Tests.{not-true, not-false}
 use lib.ListN.{length, take, drop}
 use Rattle.fields.proofs.Pieces.{pieces_le}
 use Rattle.reading.specs.Reading.{is_names}
@@ -47,19 +46,14 @@ read_names-requires c = let cut = names_cut _ _ _ _ _ _ c.requires c.if-ends-bef
     let n = fields_are _ _ _ c.count-n.ensures cut in
     let f = le_trans (held_few _ _ _ c.held-w.ensures) c.requires.placed in record {
       line_bound = le_trans (names_room _ _ _ _ _ _ c.requires c.if-ends-before.false _ n _ c.end_of-e.ensures) c.requires.short;
-      starts_in_bounds = (
-      le_trans (le_of_eq (sym (front_length _ _ f))) (le_trans (held_narrow _ _ _ c.held-w.ensures) (le_of_eq (fields_are _ _ _ c.count-n.ensures refl))),
-    );
+      starts_in_bounds = le_trans (le_of_eq (sym (front_length _ _ f))) (le_trans (held_narrow _ _ _ c.held-w.ensures) (le_of_eq (fields_are _ _ _ c.count-n.ensures refl)));
     }
-
-pub shape_of-starts-then-not-read_names : goal.shape_of-starts-then-not-read_names
-shape_of-starts-then-not-read_names c = c.starts-1.given.1
 
 pub returns-then-not-read_names : goal.returns-then-not-read_names
 returns-then-not-read_names c =
     let cut = names_cut _ _ _ _ _ _ c.requires c.if-ends-before.false _ refl _ c.end_of-e.ensures in
     let n = fields_are _ _ _ c.count-n.ensures cut in
-    names_wrong _ _ _ _ _ _ c.requires c.if-ends-before.false _ n (ap is_names (sym cut) ∙ sym c.read_names.ensures.told ∙ not-true _ c.if-not-read_names.true) _ _ _ _
+    names_wrong _ _ _ _ _ _ c.requires c.if-ends-before.false _ n (ap is_names (sym cut) ∙ sym c.read_names.ensures.told ∙ c.if-not-read_names.true) _ _ _ _
 
 pub overflow_add-e : goal.overflow_add-e
 overflow_add-e c = omega (arith, names_within _ _ _ _ _ _ c.requires c.if-ends-before.false _ refl _ c.end_of-e.ensures, c.requires.short)
@@ -76,26 +70,20 @@ read_lines-requires c =
 pub shape_of-cells-then-not-read_lines : goal.shape_of-cells-then-not-read_lines
 shape_of-cells-then-not-read_lines c = c.read_lines.auto.cells
 
-pub shape_of-starts-then-not-read_lines : goal.shape_of-starts-then-not-read_lines
-shape_of-starts-then-not-read_lines c = c.starts-2-1.given.1 ∙ c.starts-1.given.1
-
 pub returns-then-not-read_lines : goal.returns-then-not-read_lines
 returns-then-not-read_lines c =
     let cut = names_cut _ _ _ _ _ _ c.requires c.if-ends-before.false _ refl _ c.end_of-e.ensures in
     let n = fields_are _ _ _ c.count-n.ensures cut in
     let f = le_trans (held_few _ _ _ c.held-w.ensures) c.requires.placed in
-    prices_bad _ _ _ _ _ _ c.requires c.if-ends-before.false _ n _ c.end_of-e.ensures _ c.held-w.ensures _ _ _ cut (names_true c.read_names.ensures (not-false _ c.if-not-read_names.false)) (c.read_names.auto.starts ∙ sym (front_length _ _ f)) _ _ _ _ _ c.read_lines.ensures (not-true _ c.if-not-read_lines.true) _
+    prices_bad _ _ _ _ _ _ c.requires c.if-ends-before.false _ n _ c.end_of-e.ensures _ c.held-w.ensures _ _ _ cut (names_true c.read_names.ensures c.if-not-read_names.false) (c.read_names.auto.starts ∙ sym (front_length _ _ f)) _ _ _ _ _ c.read_lines.ensures c.if-not-read_lines.true _
 
 pub shape_of-cells : goal.shape_of-cells
 shape_of-cells c = c.read_lines.auto.cells
-
-pub shape_of-starts : goal.shape_of-starts
-shape_of-starts c = c.starts-2-1.given.1 ∙ c.starts-1.given.1
 
 pub returns : goal.returns
 returns c =
     let cut = names_cut _ _ _ _ _ _ c.requires c.if-ends-before.false _ refl _ c.end_of-e.ensures in
     let n = fields_are _ _ _ c.count-n.ensures cut in
     let f = le_trans (held_few _ _ _ c.held-w.ensures) c.requires.placed in
-    prices_good _ _ _ _ _ _ c.requires c.if-ends-before.false _ n _ c.end_of-e.ensures _ c.held-w.ensures _ _ _ cut (names_true c.read_names.ensures (not-false _ c.if-not-read_names.false)) (c.read_names.auto.starts ∙ sym (front_length _ _ f)) _ _ _ _ _ c.read_lines.ensures (not-false _ c.if-not-read_lines.false)
+    prices_good _ _ _ _ _ _ c.requires c.if-ends-before.false _ n _ c.end_of-e.ensures _ c.held-w.ensures _ _ _ cut (names_true c.read_names.ensures c.if-not-read_names.false) (c.read_names.auto.starts ∙ sym (front_length _ _ f)) _ _ _ _ _ c.read_lines.ensures c.if-not-read_lines.false
     _ (put_none c.read_lines.new.starts _ c.read_lines.auto.starts)

@@ -1,7 +1,16 @@
 -- `reading::read_row` meets its contract. `Rowing` says where the walk over the fields stands. Assumes nothing.
+use Prim.Native.Nat.{◌+◌}
+use mathlib.Core.Path.{◌≡◌}
+use mathlib.Core.Logic.{inl, inr}
+use lib.ListN.{length}
+use lib.Ieee.{nan}
+use Rattle.fields.specs.Split.{split}
+use Rattle.reading.specs.Inner.{cell_at}
+use Rattle.reading.proofs.Front.{Front, front_step}
 use native.Mathlib.Omega.{arith}
-use Rattle.reading.proofs.Walk.{field_within, rowing_start, row_bad, rowing_step, row_end}
+use Rattle.reading.proofs.Walk.{field_within, rowing_start, row_bad, cell_is, rowing_step, row_end}
 use Rattle.reading.proofs.read_row.Goals as goal
+use Rattle.reading.proofs.read_row.Goals.{then-j-row, else-j-row}
 
 pub loop-at-init : goal.loop-at-init
 loop-at-init c = rowing_start _ _
@@ -39,7 +48,10 @@ loop-at-smaller c =
 
 pub loop-at-preserved : goal.loop-at-preserved
 loop-at-preserved c =
-    rowing_step c.loop-at.invariant c.loop-at-test.true _ c.end_of-e.ensures _ c.read_cell-cell.ensures _ c.in-Of.is _ (came c).0 (came c).1
+    let came : (length c.if-j-row.row ≡ length c.loop-at.row) × Front nan (cell_at (split 9 c.args.line.now)) (c.loop-at.j + 1) c.if-j-row.row = front_step nan _ _ _ _ _ c.loop-at.invariant.front
+    (cell_is c.loop-at.invariant c.loop-at-test.true _ c.end_of-e.ensures _ c.read_cell-cell.ensures _ c.in-Of.is)
+    (elim c.if-j-row.branch [ then-j-row t ↦ inl (t.if-j-row.true, t.row-is) | else-j-row t ↦ inr (t.if-j-row.false, t.row-is) ]) in
+    rowing_step c.loop-at.invariant c.loop-at-test.true _ c.end_of-e.ensures _ c.read_cell-cell.ensures _ c.in-Of.is _ came.0 came.1
 
 pub shape_of-row : goal.shape_of-row
 shape_of-row c = c.loop-at.invariant.sized

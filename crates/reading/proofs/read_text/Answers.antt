@@ -2,7 +2,6 @@
 use mathlib.Core.Path.{refl, sym, ap, ◌∙◌}
 use native.Mathlib.Nat.{le_trans}
 use native.Mathlib.Omega.{arith}
-use borrow.Author.Tests.{not-true, not-false}
 use Rattle.fields.proofs.Pieces.{end_le, front_length as front_end}
 use Rattle.heading.specs.Heading.{head_of}
 use Rattle.reading.proofs.Blocks.{front_length, held_few}
@@ -58,11 +57,8 @@ shape_of-cells-then-not-read_ceilings c = c.read_block-found.auto.cells
 pub shape_of-starts-then-not-read_ceilings : goal.shape_of-starts-then-not-read_ceilings
 shape_of-starts-then-not-read_ceilings c = c.read_block-found.auto.starts
 
-pub shape_of-ceilings-then-not-read_ceilings : goal.shape_of-ceilings-then-not-read_ceilings
-shape_of-ceilings-then-not-read_ceilings c = c.ceilings-1.given.1
-
 pub returns-then-not-read_ceilings : goal.returns-then-not-read_ceilings
-returns-then-not-read_ceilings c = text_unlimited _ _ _ _ _ _ _ _ c.read_block-found.ensures _ _ c.in-Of.is _ c.held-w.ensures _ _ (le_trans (held_few _ _ _ c.held-w.ensures) c.requires.in_bounds_3) c.read_ceilings.ensures (not-true _ c.if-not-read_ceilings.true)
+returns-then-not-read_ceilings c = text_unlimited _ _ _ _ _ _ _ _ c.read_block-found.ensures _ _ c.in-Of.is _ c.held-w.ensures _ _ (le_trans (held_few _ _ _ c.held-w.ensures) c.requires.in_bounds_3) c.read_ceilings.ensures c.if-not-read_ceilings.true
 
 pub judged-requires : goal.judged-requires
 judged-requires c = rows_short c.read_block-found.ensures _ _ c.in-Of.is c.requires.text_len_bound
@@ -73,13 +69,10 @@ shape_of-cells c = c.read_block-found.auto.cells
 pub shape_of-starts : goal.shape_of-starts
 shape_of-starts c = c.read_block-found.auto.starts
 
-pub shape_of-ceilings : goal.shape_of-ceilings
-shape_of-ceilings c = c.ceilings-1.given.1
-
 pub returns : goal.returns
 returns c =
     let l = line_cut _ _ c.end_of-e.ensures in
     let p = priced_is _ _ _ c.is_priced-priced.ensures l in
     let q = ceiled_is _ _ _ c.is_ceiled-ceiled.ensures l in
-    text_judged _ _ _ _ _ _ _ _ c.read_block-found.ensures _ _ c.in-Of.is _ c.held-w.ensures _ _ (le_trans (held_few _ _ _ c.held-w.ensures) c.requires.in_bounds_3) c.read_ceilings.ensures (not-false _ c.if-not-read_ceilings.false) refl
+    text_judged _ _ _ _ _ _ _ _ c.read_block-found.ensures _ _ c.in-Of.is _ c.held-w.ensures _ _ (le_trans (held_few _ _ _ c.held-w.ensures) c.requires.in_bounds_3) c.read_ceilings.ensures c.if-not-read_ceilings.false refl
     (omega (arith, c.count-ends.ensures, c.if-ends-lt1.false)) _ (c.head-asked.ensures ∙ ap head_of l) _ p _ q _ c.judged.ensures
