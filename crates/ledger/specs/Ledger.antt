@@ -1,5 +1,5 @@
 -- Document 02, request 5: what is kept of each asset name over many jobs, and how a holding is entered. Definitions only.
-use Rattle.std.specs.Prelude.{ℕ, zero, suc, ◌+◌, ◌-◌, ◌*◌, min, max, ◌≡◌, Bool, false, not, cond, ◌&&◌, ◌||◌, List, [], ◌∷◌, ◌++◌, leb, ltb, eqb, length, get_or, take}
+use Rattle.std.specs.Prelude.{ℕ, ◌+◌, ◌-◌, ◌*◌, min, max, ◌≡◌, Bool, false, not, cond, ◌&&◌, ◌||◌, List, [], ◌∷◌, ◌++◌, leb, ltb, eqb, length, get_or, take}
 use Rattle.lent.specs.Grid.{tab, noughts}
 use Rattle.lent.specs.Lent.{laid}
 use Rattle.refusal.specs.Table.{Line, first}

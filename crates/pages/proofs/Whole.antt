@@ -1,7 +1,6 @@
 -- A whole input by one call: begun, taken in one piece, ended, printed. Assumes nothing.
-use Prim.Native.Nat.{ℕ, ◌+◌, ◌-◌, ◌*◌, ◌<◌, ◌≤◌}
-use mathlib.Core.Path.{◌≡◌, refl, sym, ap, subst, ◌∙◌}
-use mathlib.Core.Bool.{Bool, true, false, not}
+use Prim.Native.Nat.{ℕ, ◌+◌, ◌<◌, ◌≤◌}
+use mathlib.Core.Path.{◌≡◌, sym, ap, subst, ◌∙◌}
 use mathlib.Core.List.{List, [], ◌∷◌, append-nil}
 use mathlib.Core.Logic.{⊎_elim}
 use native.Mathlib.Omega.{arith}
@@ -17,15 +16,14 @@ use Rattle.refusal.specs.declared.Refusal.TheVariants.{SliceLength, ShortBuffer}
 use Rattle.refusal.specs.declared.Outcome.{Outcome}
 use Rattle.refusal.specs.declared.Outcome.TheVariants.{Done, Refused}
 use Rattle.ledger.specs.Ledger.{most_names, table_cells}
-use Rattle.ledger.specs.Meaning.{totals}
 use Rattle.slips.specs.Slips.{most_line}
-use Rattle.month.specs.Month.{Books, opening, million, Report, at, refused_by, closed, broken_off, report_of}
+use Rattle.month.specs.Month.{opening, Report, at, refused_by, closed, broken_off, report_of}
 use Rattle.month.specs.Calls.{books_of, standing, tally_of, progress_of}
 use Rattle.month.specs.declared.Progress.{Progress}
 use Rattle.month.specs.declared.Progress.TheVariants as progress
 use Rattle.month.proofs.Totals.{report_totals}
 use Rattle.month.proofs.Steps.{go_on_at}
-use Rattle.cutting.specs.Cutting.{Stream, dry, bytes_taken, gathered}
+use Rattle.cutting.specs.Cutting.{Stream, dry, gathered}
 use Rattle.cutting.specs.Calls.{feed_lines, feed_report, streaming, rested_by, fed_by, pieces_fed, feed_of, ended_by, FeedBegun, TookBytes, FeedEnded}
 use Rattle.cutting.specs.declared.Feed.{Feed}
 use Rattle.cutting.proofs.Streams.{bytes_refused}
@@ -57,7 +55,7 @@ module _ (text : List ℕ) (cells longest room : ℕ) where
   in_room : (p : Progress) (t : List ℕ) → names_in p ≤ most_names → length t ≡ cells → cells ≡ table_cells → most_line < longest → closed (standing p t) ≡ report_of text → end_outcome p t room ≡ report_outcome text cells longest room
   unfolding end_outcome page_lines report_outcome report_lines first and_then
   in_room p t n l e h q =
-      rw (q, l, le-ltb most_names (names_in p) n, eq-eqb cells table_cells e, le-ltb longest (most_line + 1) (omega arith))
+      rw (q, l, le-ltb most_names (names_in p) n, eq-eqb cells table_cells e, le-ltb longest (most_line + 1) (omega arith)) (⊎_elim (λ b. rw b) (λ b. rw b) (either (ltb room 32768)))
 
 -- a report that was refused from its first byte on: 10 for the table, else what it was refused by, where that is 11
 module _ (t : List ℕ) (room k : ℕ) where

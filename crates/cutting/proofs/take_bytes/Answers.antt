@@ -15,9 +15,9 @@ returns-in_default c = fed_refused c.args.feed c.args.table.now c.args.held.now 
 
 pub take_each-fed-requires : goal.take_each-fed-requires
 take_each-fed-requires c = let d = begins c.args.feed c.args.table.now c.args.held.now c.judged-begun.result (c.judged-begun.ensures c.args.table.now refl) _ c.in-At.is in record {
-      held_bound = d.0;
-      in_bounds = d.1;
-    }
+  held_bound = d.0;
+  in_bounds = d.1;
+}
 
 pub shape_of-table : goal.shape_of-table
 shape_of-table c = c.settle-2.auto.table ∙ c.take_each-fed.auto.table

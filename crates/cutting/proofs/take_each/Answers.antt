@@ -13,9 +13,9 @@ bounds-piece-i c = c.loop-i-test.true
 
 pub take_byte-at-requires : goal.take_byte-at-requires
 take_byte-at-requires c = record {
-      held_bound = c.loop-i.invariant.short;
-      in_bounds = subst (λ (n : ℕ). 4357 < n) (sym c.loop-i.invariant.same_held) c.requires.in_bounds;
-    }
+  held_bound = c.loop-i.invariant.short;
+  in_bounds = subst (λ (n : ℕ). 4357 < n) (sym c.loop-i.invariant.same_held) c.requires.in_bounds;
+}
 
 pub overflow_add-i : goal.overflow_add-i
 overflow_add-i c = omega arith
@@ -34,6 +34,6 @@ shape_of-held c = c.loop-i.invariant.same_held
 
 pub returns : goal.returns
 returns c = record {
-      held_bound_2 = c.loop-i.invariant.short;
-      running = way_ends c.args.piece.now c.args.feed c.args.table.now c.args.held.now c.loop-i.i c.loop-i.at c.loop-i.table c.loop-i.held c.loop-i.invariant (omega arith);
-    }
+  held_bound_2 = c.loop-i.invariant.short;
+  running = way_ends c.args.piece.now c.args.feed c.args.table.now c.args.held.now c.loop-i.i c.loop-i.at c.loop-i.table c.loop-i.held c.loop-i.invariant (omega arith);
+}

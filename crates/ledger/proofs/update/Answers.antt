@@ -34,7 +34,5 @@ returns c = let e = position_at c.args.table.now c.args.at in
     let q = length-set (take c.args.n (positions c.args.table.now)) c.args.at (added e c.args.h) ∙ first_length c.args.table.now c.args.n c.requires.2 in
     let j : c.join.result ≡ added e c.args.h = c.join.ensures ∙ ap (λ (z : Position). added z c.args.h) c.position_at-p.ensures in record {
       value = done_answer (beyond e c.args.h) l l c.args.n b q;
-      table_after = (
-      done_left (beyond e c.args.h) l (positions c.args.table.now) (positions c.put_position.new.table) b (c.put_position.ensures ∙ ap (λ (z : Position). set (positions c.args.table.now) c.args.at z) j ∙ set_over (positions c.args.table.now) c.args.n c.args.at (added e c.args.h) c.requires.1 (omega (arith, length_positions c.args.table.now))),
-    );
+      table_after = done_left (beyond e c.args.h) l (positions c.args.table.now) (positions c.put_position.new.table) b (c.put_position.ensures ∙ ap (λ (z : Position). set (positions c.args.table.now) c.args.at z) j ∙ set_over (positions c.args.table.now) c.args.n c.args.at (added e c.args.h) c.requires.1 (omega (arith, length_positions c.args.table.now)));
     }

@@ -7,9 +7,9 @@ returns-in_default c = next_refused c.args.table.now c.args.line.now c.args.prog
 
 pub take_slip-requires : goal.take_slip-requires
 take_slip-requires c = record {
-      fits = next_fits c.args.table.now c.args.line.now c.args.progress c.in-At.y c.in-At.is c.judge_table.result c.judge_table.ensures c.in-Done.is;
-      small_slip = slip_small c.args.line.now c.read_slip.result c.read_slip.ensures;
-    }
+  fits = next_fits c.args.table.now c.args.line.now c.args.progress c.in-At.y c.in-At.is c.judge_table.result c.judge_table.ensures c.in-Done.is;
+  small_slip = slip_small c.args.line.now c.read_slip.result c.read_slip.ensures;
+}
 
 pub returns-in-Refused : goal.returns-in-Refused
 returns-in-Refused c = next_misfit c.args.table.now c.args.line.now c.args.progress c.in-At.y c.in-At.is c.judge_table.result c.judge_table.ensures c.in-Refused.r c.in-Refused.is

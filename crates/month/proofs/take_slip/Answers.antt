@@ -5,9 +5,9 @@ use Rattle.month.proofs.take_slip.Goals as goal
 
 pub take_held-requires : goal.take_held-requires
 take_held-requires c = record {
-      fits = c.requires.fits;
-      m_bound = slip_held c.args.table.now c.args.y c.args.w.now c.args.slip _ c.in-Held.is c.requires.small_slip;
-    }
+  fits = c.requires.fits;
+  m_bound = slip_held c.args.table.now c.args.y c.args.w.now c.args.slip _ c.in-Held.is c.requires.small_slip;
+}
 
 pub returns-in-Other : goal.returns-in-Other
 returns-in-Other c = slip_other c.args.table.now c.args.y c.args.w.now c.args.slip c.in-Other.is

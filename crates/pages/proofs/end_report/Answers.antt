@@ -5,9 +5,9 @@ use Rattle.pages.proofs.end_report.Goals as goal
 
 pub print-listed-requires : goal.print-listed-requires
 print-listed-requires c = record {
-      said_value = said_now _ _ _ _ _ (c.judge_end-said.ensures c.args.table.now refl) c.clear_bytes.auto.out;
-      page_value = blank_now _ _ c.clear_bytes.ensures c.clear_bytes.auto.out;
-    }
+  said_value = said_now _ _ _ _ _ (c.judge_end-said.ensures c.args.table.now refl) c.clear_bytes.auto.out;
+  page_value = blank_now _ _ c.clear_bytes.ensures c.clear_bytes.auto.out;
+}
 
 pub shape_of-table : goal.shape_of-table
 shape_of-table c = c.clear_numbers_from.auto.out

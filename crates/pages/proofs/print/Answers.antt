@@ -4,10 +4,10 @@ use Rattle.pages.proofs.print.Goals as goal
 
 pub put_page-requires : goal.put_page-requires
 put_page-requires c = let r = ready c.args.progress c.args.table.now _ c.args.said c.requires.said_value c.in-Done.is _ c.in-At.is in record {
-      table_len = r.long;
-      names_bound = r.few;
-      in_bounds = r.roomy;
-    }
+  table_len = r.long;
+  names_bound = r.few;
+  in_bounds = r.roomy;
+}
 
 pub returns-in-Refused : goal.returns-in-Refused
 returns-in-Refused c = unprinted c.args.progress c.args.table.now _ c.args.said c.requires.said_value _ c.in-Refused.is c.requires.page_value

@@ -9,10 +9,10 @@ put_jobs-headed-requires c = omega arith
 
 pub put_positions-requires : goal.put_positions-requires
 put_positions-requires c = record {
-      table_len = c.requires.table_len;
-      n_bound = c.requires.names_bound;
-      n_in_bounds = positions_room _ _ _ c.put_jobs-headed.ensures c.requires.names_bound c.requires.in_bounds;
-    }
+  table_len = c.requires.table_len;
+  n_bound = c.requires.names_bound;
+  n_in_bounds = positions_room _ _ _ c.put_jobs-headed.ensures c.requires.names_bound c.requires.in_bounds;
+}
 
 pub shape_of-page : goal.shape_of-page
 shape_of-page c = c.put_positions.auto.out ∙ c.put_jobs-headed.auto.out
