@@ -1,13 +1,12 @@
 -- Laws in the shape of the needs: tokens read from the first byte on, writing that goes on, and what is not zero. Assumes nothing.
-use Prim.Native.Nat.{ℕ, zero, suc, ◌+◌, ◌*◌, ◌-◌, ◌%◌, ◌^◌, ◌<◌, ◌≤◌, min}
+use Prim.Native.Nat.{ℕ, zero, suc, ◌+◌, ◌*◌, ◌-◌, ◌%◌, ◌<◌, ◌≤◌, min}
 use mathlib.Core.Path.{◌≡◌, refl, sym, ap, ◌∙◌}
-use mathlib.Core.List.{List, [], ◌∷◌, ◌++◌}
+use mathlib.Core.List.{List, [], ◌∷◌}
 use native.Mathlib.Nat.{sub-zero, min-le_right, min-zero, zero-min, suc-min-suc}
 use native.Mathlib.Numerals.{add-one}
 use native.Mathlib.Omega.{arith}
-use borrow.Author.Rules.{rules}
 use borrow.Author.Tests.{lt-ltb, le-ltb}
-use lib.ListN.{length, get_or, take, drop, set, length-set, drop_of_length-le, length-take, length-drop}
+use lib.ListN.{length, get_or, take, drop, set, length-set, drop_of_length-le, length-drop}
 use lib.Seq.{drop-cons, length-take-le, get_or-set_other}
 use lib.Ieee.{Float, nan, binary64, to_bits}
 use Rattle.lent.specs.declared.Shape.{Shape}

@@ -16,6 +16,6 @@ loop-i-preserved c = (omega arith, simp length-set c.loop-i.invariant.1, place_s
 
 pub returns : goal.returns
 returns c = let e = le_antisymm c.loop-i.invariant.0 c.loop-i-test.false ∙ c.least-count.ensures.value in record {
-      value = place_end _ _ _ _ _ c.loop-i.invariant.2 e;
-      name_after = fill_end (λ (v : ℕ). v % 256) _ _ _ _ _ _ c.loop-i.invariant.3 e;
-    }
+  value = place_end _ _ _ _ _ c.loop-i.invariant.2 e;
+  name_after = fill_end (λ (v : ℕ). v % 256) _ _ _ _ _ _ c.loop-i.invariant.3 e;
+}

@@ -7,7 +7,7 @@ shape_of-cells c = c.doubles_to-len.auto.cells
 
 pub returns : goal.returns
 returns c = let p = place_three _ _ _ _ _ c.next-given.ensures.at_value c.next-rows.ensures.at_value c.next-columns.ensures.at_value in record {
-      shape_value = shape_read _ _ _ _ _ _ _ c.shape_if-shape.ensures (token_first _ _ _ c.next-given.ensures.value_value) (token_second _ _ _ _ c.next-given.ensures.at_value c.next-rows.ensures.value_value) (token_third _ _ _ _ _ c.next-given.ensures.at_value c.next-rows.ensures.at_value c.next-columns.ensures.value_value);
-      len_value = (token_fourth _ _ _ _ p c.doubles_to-len.ensures.value_value, matrix_place_lem _ _ _ _ _ p c.doubles_to-len.ensures.at_value);
-      at_value = ;
-    }
+  shape_value = shape_read _ _ _ _ _ _ _ c.shape_if-shape.ensures (token_first _ _ _ c.next-given.ensures.value_value) (token_second _ _ _ _ c.next-given.ensures.at_value c.next-rows.ensures.value_value) (token_third _ _ _ _ _ c.next-given.ensures.at_value c.next-rows.ensures.at_value c.next-columns.ensures.value_value);
+  len_value = token_fourth _ _ _ _ p c.doubles_to-len.ensures.value_value;
+  at_value = matrix_place_lem _ _ _ _ _ p c.doubles_to-len.ensures.at_value;
+}

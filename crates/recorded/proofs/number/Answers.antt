@@ -8,15 +8,15 @@ loop-i-init c = (refl, refl)
 
 pub returns-then-text-i-le32 : goal.returns-then-text-i-le32
 returns-then-text-i-le32 c = record {
-      value_value = value_here _ _ _ _ c.loop-i-test.true c.if-text-i-le32.true c.loop-i.invariant.0;
-      at_value = end_here _ _ _ c.loop-i-test.true c.if-text-i-le32.true c.loop-i.invariant.1;
-    }
+  value_value = value_here _ _ _ _ c.loop-i-test.true c.if-text-i-le32.true c.loop-i.invariant.0;
+  at_value = end_here _ _ _ c.loop-i-test.true c.if-text-i-le32.true c.loop-i.invariant.1;
+}
 
 pub loop-i-preserved : goal.loop-i-preserved
 loop-i-preserved c = (value_on _ _ _ _ _ c.loop-i-test.true c.if-text-i-le32.false c.worth.ensures.value c.loop-i.invariant.0, end_on _ _ _ c.loop-i-test.true c.if-text-i-le32.false c.loop-i.invariant.1)
 
 pub returns : goal.returns
 returns c = record {
-      value_value = value_none _ _ _ _ c.loop-i-test.false c.loop-i.invariant.0;
-      at_value = end_none _ _ _ c.loop-i-test.false c.loop-i.invariant.1;
-    }
+  value_value = value_none _ _ _ _ c.loop-i-test.false c.loop-i.invariant.0;
+  at_value = end_none _ _ _ c.loop-i-test.false c.loop-i.invariant.1;
+}
