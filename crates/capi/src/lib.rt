@@ -82,14 +82,14 @@ pub extern "C" fn rovignesc_hrp(
         })
         distance.now
         (record {
-          rows = length rows.entry.now;
+          rows = length rows.old;
           order = length order.old;
           weights = length weights.old;
           correlations = length seriated_correlations.old;
           distances = length seriated_distances.old;
           scratch = length scratch.old;
         })
-        result rows.exit.now order.new weights.new seriated_correlations.new seriated_distances.new scratch.new }
+        result rows.new order.new weights.new seriated_correlations.new seriated_distances.new scratch.new }
 {
     let prices_shape = lent::shape_if(prices_given != 0, prices_rows, prices_columns);
     let returns_shape = lent::shape_if(returns_given != 0, returns_rows, returns_columns);
@@ -208,12 +208,12 @@ pub extern "C" fn rovignesc_hcaa(
         })
         linkage.now distance.now
         (record {
-          rows = length rows.entry.now;
+          rows = length rows.old;
           order = length order.old;
           weights = length weights.old;
           scratch = length scratch.old;
         })
-        (length asked.old) result rows.exit.now order.new weights.new scratch.new asked.new }
+        (length asked.old) result rows.new order.new weights.new scratch.new asked.new }
 {
     let prices_shape = lent::shape_if(prices_given != 0, prices_rows, prices_columns);
     let returns_shape = lent::shape_if(returns_given != 0, returns_rows, returns_columns);

@@ -46,7 +46,7 @@ use Rattle.heading.specs.Heading as heading
 use Rattle.reading.specs.Reading as reading
 use Rattle.reading.specs.declared.Reading.{Reading}
 use Rattle.reading.specs.declared.Reading.TheVariants as read
-use Rattle.clusters.specs.Clusters.{recip, recip_sum, shares, term, variance_of, outside, any_listed_low as anyLowOf, risk_table, size_table, shares_outcome, variance_outcome, variance_answer}
+use Rattle.clusters.specs.Clusters.{recip, recip_sum, shares, term, variance_of, outside, any_listed_low as any_low_of, risk_table, size_table, shares_outcome, variance_outcome, variance_answer}
 use Rattle.clusters.specs.Shares.{is_none, weights_in}
 use Rattle.ordering.specs.Order as ordered
 use Rattle.ordering.specs.Nearest as nearest
@@ -356,5 +356,5 @@ table = trees ++ (hcaas ++ (tails ++ (hrps Correlation ++ (hrps DistanceOfDistan
 
 -- "The P figures are proved as one table under one claim"
 pub figures : all table ≡ true
-unfolding and_then same lower lowered is_word children_table children_outcome children_rows ward_f update_f pair_before near better offer look scan_row scan_from scan_all both movable moved moved_all merged step copied start state_at merge_rows order.order_table order.order_outcome order.order_laid count below once is_tree grow tree_at leaves onto split digit number is_bits is_numeral numeral_read decimals.is_cell decimals.cell_of decimals.is_decimal decimals.decimal_of decimals.signed_by decimals.over_tens decimals.digits_of decimals.is_bare decimals.shaped decimals.bare decimals.signed distance_named linkage_named heading.clusters_of heading.prices_after heading.ceilings_after heading.is_of heading.is_hrp heading.is_hcaa heading.own_fields heading.is_priced heading.is_ceiled heading.distance_field heading.unknown_lines heading.head_of reading.priced reading.ceiled reading.head_in reading.rows_in reading.assets is_name is_ceiling ceiling_of reading.is_row reading.row_fields reading.is_asset reading.is_day reading.is_names reading.is_ceilings reading.is_covariance reading.is_prices reading.is_block reading.is_job reading.text_cell reading.cells_in reading.name_of reading.text_ceiling reading.ceilings_in reading.is_over reading.text_lines reading.read_table reading.read_outcome reading.block_in reading.job_in reading.read_of job.cells_if job.hrp_job_in job.hcaa_job_in job.allocator_says job.job_weights job.job_order job.figures_of job.least_for job.text_table job.job_outcome job.listing_of job.job_rows job.sheet_of branch.walk branch.branches branch.find branch.first_of branch.size_of branch.depth_of branch.members_of branch.subtotal over_all groups.group_of groups.group_fields groups.indent groups.tag_of groups.group_line groups.nodes_down groups.line_down groups.group_sheet groups.least_sheet shape_of is_weekly is_monthly step_of keeps_all kept_rows kept_row sampled_cell return_cell zero_met breaks_price_rules sampled no_returns made_returns mean_of spread covariance_of covariance_cell hrp.estimated hrp.shrunk_if hcaa.names_judged hcaa.rows_judged hcaa.sharpe_judged listing.listing writing.joined listing.ceiling_at listing.holding_at listing.ceiling_field listing.holding_line listing.line_of listing.ordered writing.decimal writing.hex_of writing.places writing.digits writing.digit_byte hcaa.hcaa_return_rows hcaa.return_columns hcaa.hcaa_return_cells hcaa.prices_refused hcaa.rows_made hcaa.columns_made hcaa.cells_made hcaa.hcaa_covariance_by hcaa.hcaa_covariance hcaa.metric_of hcaa.used_metric hcaa.unnamed hcaa.is_mean hcaa.is_exponential hcaa.expected_of hcaa.used_expected hcaa.cluster_count hcaa.used_rule hcaa.name_lines hcaa.matrix_rules hcaa.sharpe_lines hcaa.hcaa_table hcaa.hcaa_outcome hcaa.used_inputs metric_named is_sharpe is_tail_risk metric_tail_lines nearest.no_part tail.gain tail.row_return tail.tail_sum tail.tail_count tail.mean tail.shortfall tail.wealth tail.higher tail.peak tail.fall tail.drawdown tail.conditional_drawdown tail.shortfall_of tail.drawdown_of ordered.has_minus ordered.before ordered.insert ordered.insert_all ordered.sorted nearest.whole_of nearest.place nearest.quantile hierarchy.hcaa_rows hierarchy.hcaa_order hierarchy.hcaa_shares hierarchy.room_lines hierarchy.share_lines allot.down_shares allot.allotted allot.inside_of allot.varied_of allot.equal_of allot.spread_of allot.deal_to sharing.split_of sharing.scored sharing.by_risk sharing.split_by sharing.bounded in_range every millionths_table millionths_outcome millionths_in millionths_laid hrp.prices_alone hrp.hrp_return_rows hrp.hrp_return_cells hrp.hrp_covariance_by hrp.hrp_covariance hrp.hrp_shape_lines hrp.number_lines hrp.hrp_table hrp.hrp_outcome absent rows_of_shape other_columns other_size matrix_lines parity.correlations_of parity.hrp_distances parity.tree_distances distances_in tree_rows tree_order parity.hrp_rows parity.hrp_order parity.hrp_shares parity.parity_room_lines parity.hrp_risk_lines bisection.factor_of bisection.sides_factor bisection.halved bisection.bisected bisection.normal bisection.bisection_shares too_big misfits over_limit other_length sizes laid first tab grid sum_to sum_on sum_rows any_to range span is_none weights_in recip recip_sum shares term variance_of outside anyLowOf risk_table size_table shares_outcome variance_outcome variance_answer correlation_cell any_low clamped distance_of distance_cell off_diagonal square between between_cell min_of max_of abs_of clamp_of finite_of count_of one_over root isqrt lt le eq is_nan neg add sum sub mul div of_int round units odd count_trailing_zeros size ieee-span climb of_fields of_bits to_bits whole_part left_over whole_at left_at sooner rank_of whole_total missing millionths_at out_of_reach millionths_lines upto ceilings.kept_at ceilings.gap_at ceilings.cut_total ceilings.left_for ceilings.capped_at ceilings.capped_in ceilings.too_low figures_in figures_lines
+unfolding and_then same lower lowered is_word children_table children_outcome children_rows ward_f update_f pair_before near better offer look scan_row scan_from scan_all both movable moved moved_all merged step copied start state_at merge_rows order.order_table order.order_outcome order.order_laid count below once is_tree grow tree_at leaves onto split digit number is_bits is_numeral numeral_read decimals.is_cell decimals.cell_of decimals.is_decimal decimals.decimal_of decimals.signed_by decimals.over_tens decimals.digits_of decimals.is_bare decimals.shaped decimals.bare decimals.signed distance_named linkage_named heading.clusters_of heading.prices_after heading.ceilings_after heading.is_of heading.is_hrp heading.is_hcaa heading.own_fields heading.is_priced heading.is_ceiled heading.distance_field heading.unknown_lines heading.head_of reading.priced reading.ceiled reading.head_in reading.rows_in reading.assets is_name is_ceiling ceiling_of reading.is_row reading.row_fields reading.is_asset reading.is_day reading.is_names reading.is_ceilings reading.is_covariance reading.is_prices reading.is_block reading.is_job reading.text_cell reading.cells_in reading.name_of reading.text_ceiling reading.ceilings_in reading.is_over reading.text_lines reading.read_table reading.read_outcome reading.block_in reading.job_in reading.read_of job.cells_if job.hrp_job_in job.hcaa_job_in job.allocator_says job.job_weights job.job_order job.figures_of job.least_for job.text_table job.job_outcome job.listing_of job.job_rows job.sheet_of branch.walk branch.branches branch.find branch.first_of branch.size_of branch.depth_of branch.members_of branch.subtotal over_all groups.group_of groups.group_fields groups.indent groups.tag_of groups.group_line groups.nodes_down groups.line_down groups.group_sheet groups.least_sheet shape_of is_weekly is_monthly step_of keeps_all kept_rows kept_row sampled_cell return_cell zero_met breaks_price_rules sampled no_returns made_returns mean_of spread covariance_of covariance_cell hrp.estimated hrp.shrunk_if hcaa.names_judged hcaa.rows_judged hcaa.sharpe_judged listing.listing writing.joined listing.ceiling_at listing.holding_at listing.ceiling_field listing.holding_line listing.line_of listing.ordered writing.decimal writing.hex_of writing.places writing.digits writing.digit_byte hcaa.hcaa_return_rows hcaa.return_columns hcaa.hcaa_return_cells hcaa.prices_refused hcaa.rows_made hcaa.columns_made hcaa.cells_made hcaa.hcaa_covariance_by hcaa.hcaa_covariance hcaa.metric_of hcaa.used_metric hcaa.unnamed hcaa.is_mean hcaa.is_exponential hcaa.expected_of hcaa.used_expected hcaa.cluster_count hcaa.used_rule hcaa.name_lines hcaa.matrix_rules hcaa.sharpe_lines hcaa.hcaa_table hcaa.hcaa_outcome hcaa.used_inputs metric_named is_sharpe is_tail_risk metric_tail_lines nearest.no_part tail.gain tail.row_return tail.tail_sum tail.tail_count tail.mean tail.shortfall tail.wealth tail.higher tail.peak tail.fall tail.drawdown tail.conditional_drawdown tail.shortfall_of tail.drawdown_of ordered.has_minus ordered.before ordered.insert ordered.insert_all ordered.sorted nearest.whole_of nearest.place nearest.quantile hierarchy.hcaa_rows hierarchy.hcaa_order hierarchy.hcaa_shares hierarchy.room_lines hierarchy.share_lines allot.down_shares allot.allotted allot.inside_of allot.varied_of allot.equal_of allot.spread_of allot.deal_to sharing.split_of sharing.scored sharing.by_risk sharing.split_by sharing.bounded in_range every millionths_table millionths_outcome millionths_in millionths_laid hrp.prices_alone hrp.hrp_return_rows hrp.hrp_return_cells hrp.hrp_covariance_by hrp.hrp_covariance hrp.hrp_shape_lines hrp.number_lines hrp.hrp_table hrp.hrp_outcome absent rows_of_shape other_columns other_size matrix_lines parity.correlations_of parity.hrp_distances parity.tree_distances distances_in tree_rows tree_order parity.hrp_rows parity.hrp_order parity.hrp_shares parity.parity_room_lines parity.hrp_risk_lines bisection.factor_of bisection.sides_factor bisection.halved bisection.bisected bisection.normal bisection.bisection_shares too_big misfits over_limit other_length sizes laid first tab grid sum_to sum_on sum_rows any_to range span is_none weights_in recip recip_sum shares term variance_of outside any_low_of risk_table size_table shares_outcome variance_outcome variance_answer correlation_cell any_low clamped distance_of distance_cell off_diagonal square between between_cell min_of max_of abs_of clamp_of finite_of count_of one_over root isqrt lt le eq is_nan neg add sum sub mul div of_int round units odd count_trailing_zeros size ieee-span climb of_fields of_bits to_bits whole_part left_over whole_at left_at sooner rank_of whole_total missing millionths_at out_of_reach millionths_lines upto ceilings.kept_at ceilings.gap_at ceilings.cut_total ceilings.left_for ceilings.capped_at ceilings.capped_in ceilings.too_low figures_in figures_lines
 figures = refl

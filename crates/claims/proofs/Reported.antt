@@ -24,7 +24,7 @@ use Rattle.ceilings.proofs.Weighed.{figures_length, figures_total, figures_small
 use Rattle.reading.specs.Reading.{rows_in, assets, is_job, job_in, name_of, ceilings_in, text_lines}
 use Rattle.reading.proofs.Table.{within, done_job, done_within}
 use Rattle.reading.proofs.Accepted.{name_good, ceilings_like}
-use Rattle.listing.specs.Listing.{ceiling_at, holding_at, refusal_line}
+use Rattle.listing.specs.Listing.{ceiling_at, holding_at}
 use Rattle.listing.specs.declared.Ceiling.TheVariants.{Absent, At}
 use Rattle.job.specs.declared.Form.TheVariants as form
 use Rattle.job.specs.Job.{job_weights, job_order, text_table, job_outcome, listing_of, least_for}

@@ -1,5 +1,5 @@
 -- Each line that `weights` prints is read as what it was printed for. Assumes nothing.
-use Prim.Native.Nat.{ℕ, zero, suc, ◌+◌, ◌-◌, ◌*◌, ◌%◌, ◌≤◌, ◌<◌}
+use Prim.Native.Nat.{ℕ, zero, suc, ◌-◌, ◌*◌, ◌%◌, ◌≤◌, ◌<◌}
 use mathlib.Core.Path.{◌≡◌, refl, sym, ap, ◌∙◌}
 use mathlib.Core.Bool.{Bool, true, false, not, ◌&&◌, ◌||◌}
 use mathlib.Core.List.{List, [], ◌∷◌, ◌++◌, append_assoc, append-nil}
@@ -32,7 +32,6 @@ use Rattle.refusal.specs.declared.Refusal.TheVariants.{
   CeilingsTooLow,
 }
 use Rattle.text.specs.Bytes.{bytes, same}
-use Rattle.lent.specs.Grid.{tab}
 use Rattle.fields.specs.Split.{newline, tabulator, split, all}
 use Rattle.fields.specs.Numerals.{digit, in_base, number, is_bits, is_numeral}
 use Rattle.fields.proofs.Every.{both_left, both_right, three_yes}

@@ -28,7 +28,7 @@ use Rattle.hcaa.specs.Inner.{hcaa_job}
 use Rattle.hcaa.specs.Hcaa as hcaa
 use Rattle.hcaa.specs.declared.Clusters.{Clusters}
 use Rattle.text.specs.Bytes.{bytes}
-use Rattle.reading.specs.Reading.{priced, rows_in, assets, text_cell, cells_in, name_start, starts_in, ceilings_in, read_outcome, block_in, job_in, read_of, cells_laid, starts_laid, ceilings_laid, JobRead}
+use Rattle.reading.specs.Reading.{rows_in, assets, text_cell, cells_in, name_start, starts_in, ceilings_in, read_outcome, block_in, job_in, read_of, cells_laid, starts_laid, ceilings_laid, JobRead}
 use Rattle.reading.specs.declared.Block.{Block}
 use Rattle.reading.specs.declared.Reading.{Reading}
 use Rattle.reading.specs.declared.Reading.TheVariants as reading

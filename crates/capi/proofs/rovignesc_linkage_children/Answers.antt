@@ -15,7 +15,7 @@ returns-in_default c =
 
 pub bounds-pairs-0 : goal.bounds-pairs-0
 bounds-pairs-0 c =
-    merge_place c.args.distances.now c.args.distances-rows c.args.distances-columns c.args.linkage.now (length c.args.rows.now) (length c.args.pairs.now) _ _ c.judge_merge-said.ensures c.clear_numbers.ensures c.in-Done.is
+    merge_place c.args.distances.now c.args.distances_rows c.args.distances_columns c.args.linkage.now (length c.args.rows.now) (length c.args.pairs.now) _ _ c.judge_merge-said.ensures c.clear_numbers.ensures c.in-Done.is
 
 pub shape_of-rows-in-Made : goal.shape_of-rows-in-Made
 shape_of-rows-in-Made c = c.linkage_children-answer.auto.out
