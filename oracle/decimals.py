@@ -1,5 +1,5 @@
 #!/usr/bin/env python3
-"""Writes crates/cells/stdin and crates/cells/stdout: what the program `cells` is run on by `rt check`, and what it must answer.
+"""Writes crates/cells/stdin and crates/cells/stdout: what the program `cells` is run on by `rt ci`, and what it must answer.
 
 Run it with no arguments, from anywhere: python3 oracle/decimals.py
 It needs Python 3.9 or newer and nothing else, and writes the same files every time (its random numbers are its own).

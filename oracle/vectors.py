@@ -1,5 +1,5 @@
 #!/usr/bin/env python3
-"""Writes crates/vectors/stdin and crates/vectors/stdout: what the program `vectors` is run on by `rt check`, and what it must answer.
+"""Writes crates/vectors/stdin and crates/vectors/stdout: what the program `vectors` is run on by `rt ci`, and what it must answer.
 
 Run it with no arguments, from anywhere: python3 oracle/vectors.py
 It needs Python 3.8 or newer and nothing else, and writes the same files every time (its random numbers are its own).
