@@ -14,9 +14,14 @@ pub enum Input {
     Failed,
 }
 
-// A line for standard error. Where that cannot be written either, nobody is told.
-pub fn warn(rt: HostRuntime, line: &[u8]) {
-    let _ = rt.stderr().write_all(line);
+// A line for standard error. Answers whether all was taken; nothing to write always is. Where it was not, nobody else is told.
+pub fn warn(rt: HostRuntime, line: &[u8]) -> bool
+    ensures { length line.now ≡ 0 → result ≡ true }
+{
+    if line.len() == 0 {
+        return true;
+    }
+    rt.stderr().write_all(line).is_ok()
 }
 
 // One read of standard input: the bytes that came, none at its end. A buffer of no bytes reads none.

@@ -7,3 +7,4 @@ pub mod Sizes
 pub mod Fill
 pub mod Copying
 pub mod Held
+pub mod Clauses

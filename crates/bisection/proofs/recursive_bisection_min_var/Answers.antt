@@ -4,17 +4,14 @@ use borrow.Author.Rules.{rules}
 use lib.ListN.{length-replicate}
 use lib.Seq.{length-take-le}
 use Rattle.bisection.proofs.Laws.{take_zeros, call_roomy, call_low, ends_refused, ends_side, ends_done}
+use Rattle.lent.proofs.Clauses.{value_and_out}
 use Rattle.bisection.proofs.recursive_bisection_min_var.Goals as goal
-
--- each clause, from a proof of all
-clauses : {A B : Type 0} → A × B → record { value : A; out_after : B }
-clauses p = record { value = p.0; out_after = p.1 }
 
 pub shape_of-out-in_default : goal.shape_of-out-in_default
 shape_of-out-in_default c = c.clear.auto.out
 
 pub returns-in_default : goal.returns-in_default
-returns-in_default c = clauses (ends_refused _ _ _ _ _ _ c.judge-said.ensures _ _ _ c.in_default.is c.answered.ensures c.clear.ensures)
+returns-in_default c = value_and_out (ends_refused _ _ _ _ _ _ c.judge-said.ensures _ _ _ c.in_default.is c.answered.ensures c.clear.ensures)
 
 pub slice_bounds-share-end : goal.slice_bounds-share-end
 slice_bounds-share-end c =
@@ -40,4 +37,4 @@ returns-then-not-share c = let ends = ends_side _ _ _ _ _ _ c.judge-said.ensures
     }
 
 pub returns : goal.returns
-returns c = clauses (ends_done _ _ _ _ _ _ c.judge-said.ensures _ c.in-Done.is c.share.result _ c.share.ensures _ _ c.if-not-share.false c.answered-2.ensures c.clear.ensures refl)
+returns c = value_and_out (ends_done _ _ _ _ _ _ c.judge-said.ensures _ c.in-Done.is c.share.result _ c.share.ensures _ _ c.if-not-share.false c.answered-2.ensures c.clear.ensures refl)

@@ -1,4 +1,4 @@
--- What the loops of `groups::+nodes_below` keep true, and what falls. Assumes nothing.
+-- What falls at each call of `groups::nodes_below` within itself. Assumes nothing.
 use Rattle.groups.proofs.+nodes_below.Given as goal
 
 abbrev pub decreases-nodes_below : goal.decreases-nodes_below

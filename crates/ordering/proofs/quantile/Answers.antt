@@ -1,12 +1,8 @@
 -- `ordering::quantile` meets its contract. Assumes nothing.
 use Rattle.std.proofs.Common.{sym, ◌∙◌}
 use Rattle.ordering.specs.Nearest.{part_outcome}
-use Rattle.ordering.proofs.Parts.{part_of_lem, part_accepted, quantile_done, quantile_refused}
+use Rattle.ordering.proofs.Parts.{part_of_lem, part_accepted, quantile_done, quantile_refused, value_and_list}
 use Rattle.ordering.proofs.quantile.Goals as goal
-
--- each clause, from a proof of all
-clauses : {A B : Type 0} → A × B → record { value : A; xs_after : B }
-clauses p = record { value = p.0; xs_after = p.1 }
 
 pub quantile_in-requires : goal.quantile_in-requires
 unfolding part_outcome
@@ -21,11 +17,11 @@ shape_of-xs-in-Refused c = c.clear.auto.out
 
 pub returns-in-Refused : goal.returns-in-Refused
 unfolding part_outcome
-returns-in-Refused c = clauses (quantile_refused c.args.xs.now c.args.q _ _ _ c.judge.ensures c.in-Refused.is c.clear.ensures)
+returns-in-Refused c = value_and_list (quantile_refused c.args.xs.now c.args.q _ _ _ c.judge.ensures c.in-Refused.is c.clear.ensures)
 
 pub shape_of-xs-in-Done : goal.shape_of-xs-in-Done
 shape_of-xs-in-Done c = c.quantile_in.auto.xs
 
 pub returns-in-Done : goal.returns-in-Done
 unfolding part_outcome
-returns-in-Done c = clauses (quantile_done c.args.xs.now c.args.q _ _ _ c.judge.ensures c.in-Done.is (c.settled.ensures ∙ c.quantile_in.ensures.value) c.quantile_in.ensures.xs_after)
+returns-in-Done c = value_and_list (quantile_done c.args.xs.now c.args.q _ _ _ c.judge.ensures c.in-Done.is (c.settled.ensures ∙ c.quantile_in.ensures.value) c.quantile_in.ensures.xs_after)

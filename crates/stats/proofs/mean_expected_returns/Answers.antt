@@ -4,18 +4,15 @@ use native.Mathlib.Omega.{arith}
 use Rattle.stats.specs.Expected.{expected_answer, mean_returns}
 use Rattle.stats.proofs.Laws.{expected_done}
 use Rattle.lent.proofs.Sizes.{ends_refused, ends_done}
+use Rattle.lent.proofs.Clauses.{value_and_out}
 use Rattle.stats.proofs.mean_expected_returns.Goals as goal
-
--- each clause, from a proof of all
-clauses : {A B : Type 0} → A × B → record { value : A; out_after : B }
-clauses p = record { value = p.0; out_after = p.1 }
 
 pub shape_of-out-in_default : goal.shape_of-out-in_default
 shape_of-out-in_default c = c.clear.auto.out
 
 pub returns-in_default : goal.returns-in_default
 unfolding expected_answer mean_returns
-returns-in_default c = clauses (ends_refused _ _ _ _ _ _ _ _ _ _ c.judge_expected-said.ensures c.in_default.is c.answered.ensures c.clear.ensures)
+returns-in_default c = value_and_out (ends_refused _ _ _ _ _ _ _ _ _ _ c.judge_expected-said.ensures c.in_default.is c.answered.ensures c.clear.ensures)
 
 pub mean_returns-requires : goal.mean_returns-requires
 mean_returns-requires c = let k = expected_done _ _ _ _ _ c.judge_expected-said.ensures c.in-Done.is in
@@ -29,4 +26,4 @@ shape_of-out c = c.mean_returns.auto.out ∙ c.clear.auto.out
 
 pub returns : goal.returns
 unfolding expected_answer mean_returns
-returns c = clauses (ends_done _ _ _ _ _ _ _ _ _ _ c.judge_expected-said.ensures c.in-Done.is c.answered-2.ensures c.mean_returns.ensures c.clear.ensures)
+returns c = value_and_out (ends_done _ _ _ _ _ _ _ _ _ _ c.judge_expected-said.ensures c.in-Done.is c.answered-2.ensures c.mean_returns.ensures c.clear.ensures)

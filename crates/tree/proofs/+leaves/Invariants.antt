@@ -1,4 +1,4 @@
--- What the loops of `tree::+leaves` keep true, and what falls. Assumes nothing.
+-- What falls at each call of `tree::leaves` within itself. Assumes nothing.
 use Rattle.tree.proofs.+leaves.Given as goal
 
 abbrev pub decreases-leaves : goal.decreases-leaves
