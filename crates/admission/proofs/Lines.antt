@@ -1,41 +1,29 @@
--- The lines of a call's tables, one table after another. Assumes nothing.
+-- The tables of a call, one after another: the first that refuses, or the last. Assumes nothing.
 use Prim.Native.Nat.{ℕ}
-use mathlib.Core.Path.{◌≡◌, refl, sym, ap, ◌∙◌}
-use mathlib.Core.Bool.{Bool, true, false}
-use mathlib.Core.List.{[], ◌∷◌, ◌++◌}
-use Rattle.refusal.specs.Table.{first, or_else, and_then}
+use mathlib.Core.Path.{◌≡◌, sym, ◌∙◌}
+use mathlib.Core.List.{◌++◌}
+use Rattle.refusal.specs.Table.{first}
 use Rattle.refusal.specs.declared.Refusal.{Refusal}
-use Rattle.refusal.specs.declared.Refusal.TheVariants.{DimensionMismatch}
-use Rattle.refusal.specs.declared.Outcome.{Outcome}
-use Rattle.refusal.specs.declared.Outcome.TheVariants.{Done}
-use Rattle.refusal.proofs.Tables.{table, table_end, first_append}
-use Rattle.rooms.specs.Rooms.{Room, room_lines, square_lines}
-use Rattle.sharing.specs.Down.{other_rows}
+use Rattle.refusal.proofs.Tables.{first_done, first_refused}
+use Rattle.rooms.specs.Rooms.{Room, room_lines}
 use Rattle.admission.specs.Admission.{HierarchyCall, hierarchy_size_lines, hierarchy_shape_lines, expected_lines, rule_lines, hierarchy_judge_table}
+use Rattle.std.specs.Prelude.{Ok, Err}
 
--- two lines before the rest
-pub lines_then : (a b : Bool) (x y : Refusal) (rest : Outcome) → or_else a x (or_else b y rest) ≡ and_then (first ((a, x) ∷ (b, y) ∷ [])) rest
-unfolding first or_else and_then
-lines_then true b x y rest = refl
-lines_then false true x y rest = refl
-lines_then false false x y rest = refl
+module _ (q : HierarchyCall) (len rows w : ℕ) (room : Room) where
+  pub sizes_refuse : (k : Refusal) → first (hierarchy_size_lines q len rows w) ≡ Err k → Err k ≡ first (hierarchy_judge_table q len rows w room)
+  unfolding hierarchy_judge_table
+  sizes_refuse k h = sym (first_refused (hierarchy_size_lines q len rows w) _ k h)
 
--- the four tables of a call
-pub judge_said : (q : HierarchyCall) (len rows w : ℕ) (room : Room) (sized rooms shape ruled later rest r : Outcome) → sized ≡ first (hierarchy_size_lines q len rows w) → rooms ≡ first (room_lines w room)
-    → shape ≡ first (hierarchy_shape_lines q rows w) → ruled ≡ first (expected_lines q w ++ rule_lines q.rule w) → later ≡ and_then shape ruled → rest ≡ and_then rooms later → r ≡ and_then sized rest
-    → r ≡ first (hierarchy_judge_table q len rows w room)
-unfolding hierarchy_judge_table
-judge_said q len rows w room sized rooms shape ruled later rest r a b c d e f g =
-    rw (g, f, e, a, b, c, d)
-    (sym
-    (first_append (hierarchy_size_lines q len rows w) _
-    ∙ ap (and_then (first (hierarchy_size_lines q len rows w)))
-    (first_append (room_lines w room) _ ∙ ap (and_then (first (room_lines w room))) (first_append (hierarchy_shape_lines q rows w) (expected_lines q w ++ rule_lines q.rule w)))))
+  module _ (a : first (hierarchy_size_lines q len rows w) ≡ Ok tt) where
+    pub rooms_refuse : (k : Refusal) → first (room_lines w room) ≡ Err k → Err k ≡ first (hierarchy_judge_table q len rows w room)
+    unfolding hierarchy_judge_table
+    rooms_refuse k h = sym (first_done (hierarchy_size_lines q len rows w) _ a ∙ first_refused (room_lines w room) _ k h)
 
--- return rows of another width, behind the covariance's own lines
-pub shape_said : (q : HierarchyCall) (rows w : ℕ) (square o r : Outcome) → square ≡ first (square_lines rows w)
-    → o ≡ or_else (other_rows q.rule.metric q.rule.inputs.return_rows q.return_columns w) DimensionMismatch Done → r ≡ and_then square o → r ≡ first (hierarchy_shape_lines q rows w)
-unfolding hierarchy_shape_lines
-shape_said q rows w square o r a b c =
-    let other = other_rows q.rule.metric q.rule.inputs.return_rows q.return_columns w in
-    c ∙ rw (a, b) (sym (first_append (square_lines rows w) ((other, DimensionMismatch) ∷ []) ∙ ap (and_then (first (square_lines rows w))) (table other DimensionMismatch [] ∙ ap (or_else other DimensionMismatch) table_end)))
+    module _ (b : first (room_lines w room) ≡ Ok tt) where
+      pub shape_refuses : (k : Refusal) → first (hierarchy_shape_lines q rows w) ≡ Err k → Err k ≡ first (hierarchy_judge_table q len rows w room)
+      unfolding hierarchy_judge_table
+      shape_refuses k h = sym (first_done (hierarchy_size_lines q len rows w) _ a ∙ first_done (room_lines w room) _ b ∙ first_refused (hierarchy_shape_lines q rows w) _ k h)
+
+      pub rule_judges : first (hierarchy_shape_lines q rows w) ≡ Ok tt → first (expected_lines q w ++ rule_lines q.rule w) ≡ first (hierarchy_judge_table q len rows w room)
+      unfolding hierarchy_judge_table
+      rule_judges d = sym (first_done (hierarchy_size_lines q len rows w) _ a ∙ first_done (room_lines w room) _ b ∙ first_done (hierarchy_shape_lines q rows w) _ d)

@@ -2,15 +2,16 @@
 #![tactic(auto)]
 
 ghost use Rattle.std.specs.Prelude.{◌≡◌, Bool, List, ◌++◌, ℕ, Float};
-ghost use Rattle.refusal.specs.Table.{first, and_then};
+ghost use Rattle.refusal.specs.Table.{first};
 ghost use Rattle.sharing.specs.Down.{metric_tail_lines};
 ghost use Rattle.metrics.specs.declared.Metric.{Metric};
 ghost use Rattle.admission.specs.Admission.{hierarchy_size_lines, hierarchy_shape_lines, expected_lines, rule_lines, hierarchy_judge_table};
 
-use refusal::{Outcome, Refusal};
+use refusal::Refusal;
 use sharing::Metric;
 
 // The sizes of the covariance and of the rows of returns, whatever else the rule says.
+#[tactic(auto, unfolding(crate::specs::Admission::hierarchy_size_lines, lent::specs::Lent::sizes, refusal::specs::Table::first, refusal::specs::Table::or_else))]
 fn judge_sizes(
     len: usize,
     rows_in: usize,
@@ -18,7 +19,7 @@ fn judge_sizes(
     returns: &[f64],
     return_rows: usize,
     return_columns: usize,
-) -> Outcome
+) -> Result<(), Refusal>
     ensures { (metric : Metric) (e : List Float) (q : Float) (given : Bool) (k : ℕ) → result ≡ first (hierarchy_size_lines
         (record {
           rule = record { metric = metric; inputs = record { expected = e; returns = returns.now; return_rows = return_rows; confidence = q }; clusters = k };
@@ -27,24 +28,24 @@ fn judge_sizes(
         })
         len rows_in columns) }
 {
-    let other = lent::has_other_length(returns.len(), return_rows, return_columns);
-    let o = refusal::refuse(other, Refusal::SliceLength, Outcome::Done);
-    let o = refusal::and_then(lent::sized(len, rows_in, columns), o);
     refusal::refuse(
         lent::over_limit(return_rows, return_columns),
         Refusal::OverLimit,
-        o,
-    )
+    )?;
+    lent::sized(len, rows_in, columns)?;
+    let other = lent::has_other_length(returns.len(), return_rows, return_columns);
+    refusal::refuse(other, Refusal::SliceLength)
 }
 
 // No assets, then another size than theirs, then return rows of another width, whatever else the rule says.
+#[tactic(auto, unfolding(crate::specs::Admission::hierarchy_shape_lines, rooms::specs::Rooms::square_lines, sharing::specs::Down::other_rows, refusal::specs::Table::first, refusal::specs::Table::or_else))]
 fn judge_shape(
     metric: Metric,
     return_rows: usize,
     return_columns: usize,
     rows_in: usize,
     columns: usize,
-) -> Outcome
+) -> Result<(), Refusal>
     ensures { (e xs : List Float) (q : Float) (given : Bool) (k : ℕ) → result ≡ first (hierarchy_shape_lines
         (record {
           rule = record { metric = metric; inputs = record { expected = e; returns = xs; return_rows = return_rows; confidence = q }; clusters = k };
@@ -53,27 +54,25 @@ fn judge_shape(
         })
         rows_in columns) }
 {
+    rooms::judge_square(rows_in, columns)?;
     let tail = sharing::is_tail_risk(metric);
-    let other = refusal::both(
-        tail,
-        refusal::both(0 < return_rows, return_columns != columns),
-    );
-    let o = refusal::refuse(other, Refusal::DimensionMismatch, Outcome::Done);
-    refusal::and_then(rooms::judge_square(rows_in, columns), o)
+    let other = tail && 0 < return_rows && return_columns != columns;
+    refusal::refuse(other, Refusal::DimensionMismatch)
 }
 
-// The rows and the confidence that a tail-risk metric asks for, before the rest.
-fn judge_tail(metric: Metric, return_rows: usize, confidence: f64, rest: Outcome) -> Outcome
-    ensures { result ≡ and_then (first (metric_tail_lines metric return_rows confidence)) rest }
+// The rows and the confidence that a tail-risk metric asks for.
+#[tactic(auto, unfolding(sharing::specs::Down::metric_tail_lines, refusal::specs::Table::first, refusal::specs::Table::or_else))]
+fn judge_tail(metric: Metric, return_rows: usize, confidence: f64) -> Result<(), Refusal>
+    ensures { result ≡ first (metric_tail_lines metric return_rows confidence) }
 {
     let tail = sharing::is_tail_risk(metric);
-    let rowless = refusal::both(tail, return_rows == 0);
-    let unsure = refusal::both(tail, ordering::is_no_part(confidence));
-    let o = refusal::refuse(unsure, Refusal::ConfidenceOutOfRange, rest);
-    refusal::refuse(rowless, Refusal::MissingReturnsForTailRisk, o)
+    refusal::refuse(tail && return_rows == 0, Refusal::MissingReturnsForTailRisk)?;
+    let unsure = tail && ordering::is_no_part(confidence);
+    refusal::refuse(unsure, Refusal::ConfidenceOutOfRange)
 }
 
 // What Sharpe expects, what a tail-risk metric asks, then the count of clusters, whatever else the rule says.
+#[tactic(auto, unfolding(crate::specs::Admission::expected_lines, crate::specs::Admission::rule_lines, sharing::specs::Down::metric_tail_lines, refusal::specs::Table::first, refusal::specs::Table::or_else))]
 fn judge_rule(
     metric: Metric,
     expected: &[f64],
@@ -82,7 +81,7 @@ fn judge_rule(
     confidence: f64,
     clusters: usize,
     n: usize,
-) -> Outcome
+) -> Result<(), Refusal>
     ensures { (xs : List Float) (w : ℕ) → result ≡ first (expected_lines
         (record {
           rule = record {
@@ -103,17 +102,15 @@ fn judge_rule(
         n) }
 {
     let sharpe = sharing::is_sharpe(metric);
-    let unexpected = refusal::both(sharpe, refusal::both(given, expected.len() != n));
-    let missing = refusal::both(sharpe, !given);
-    let no_count = refusal::either(clusters == 0, n < clusters);
+    let unexpected = sharpe && given && expected.len() != n;
+    refusal::refuse(unexpected, Refusal::DimensionMismatch)?;
+    refusal::refuse(sharpe && !given, Refusal::MissingExpectedReturnsForSharpe)?;
+    judge_tail(metric, return_rows, confidence)?;
     let count = Refusal::InvalidNumClusters {
         requested: clusters,
         assets: n,
     };
-    let o = refusal::refuse(no_count, count, Outcome::Done);
-    let o = judge_tail(metric, return_rows, confidence, o);
-    let o = refusal::refuse(missing, Refusal::MissingExpectedReturnsForSharpe, o);
-    refusal::refuse(unexpected, Refusal::DimensionMismatch, o)
+    refusal::refuse(clusters == 0 || n < clusters, count)
 }
 
 // What is refused before anything is worked out.
@@ -133,7 +130,7 @@ pub fn judge(
     order: usize,
     weights: usize,
     scratch: usize,
-) -> Outcome
+) -> Result<(), Refusal>
     ensures { result ≡ first (hierarchy_judge_table
         (record {
           rule = record {
@@ -147,10 +144,10 @@ pub fn judge(
         len rows_in columns
         (record { rows = rows; order = order; weights = weights; scratch = scratch })) }
 {
-    let sized = judge_sizes(len, rows_in, columns, returns, return_rows, return_columns);
-    let rooms = rooms::judge_rooms(columns, rows, order, weights, scratch);
-    let shape = judge_shape(metric, return_rows, return_columns, rows_in, columns);
-    let ruled = judge_rule(
+    judge_sizes(len, rows_in, columns, returns, return_rows, return_columns)?;
+    rooms::judge_rooms(columns, rows, order, weights, scratch)?;
+    judge_shape(metric, return_rows, return_columns, rows_in, columns)?;
+    judge_rule(
         metric,
         expected,
         given,
@@ -158,9 +155,5 @@ pub fn judge(
         confidence,
         clusters,
         columns,
-    );
-    refusal::and_then(
-        sized,
-        refusal::and_then(rooms, refusal::and_then(shape, ruled)),
     )
 }

@@ -77,7 +77,7 @@ pub fn to_bits(x: f64) -> u64
     if x != x {
         return 0x7ff8_0000_0000_0000;
     }
-    f64::to_bits(x)
+    x.to_bits()
 }
 
 // x itself. The logic has one NaN and compiled code many: an answer goes through here so that the stored one is 7ff8000000000000, which 0.0 / 0.0 is.

@@ -4,8 +4,6 @@ ghost use Rattle.std.specs.Float.Ieee.Positive.{positive};
 ghost use Rattle.arithmetic.specs.Inner.{worth, Positive, Radicand, Near};
 ghost use Rattle.arithmetic.specs.Root.{root};
 
-use std::num::{wrapping_add_u64, wrapping_sub_u64};
-
 // q * (q + 1) / 2^52, which has up to 106 bits before the division: q is cut into 27 and 26 bits.
 fn over(q: u64) -> u64
     requires { q < 2 ^ 53 }
@@ -63,7 +61,7 @@ fn guess(i: u64) -> u64
     let y = y0 * p;
     let s = 7.8482703 * s0 * p;
     let r = tame(s + y * (x - s * s) * (6.8672365125 - 23.0982550132 * (s * y)));
-    f64::to_bits(r) % 0x10_0000_0000_0000 + 0x10_0000_0000_0000
+    r.to_bits() % 0x10_0000_0000_0000 + 0x10_0000_0000_0000
 }
 
 // q or one less: the whole number nearest to the root of q * q + q - t. The test is subtracted, and not branched on: it cannot be foretold.
@@ -82,11 +80,11 @@ fn settle(m: u64, q: u64) -> u64
     let a = q / 0x400_0000;
     let b = q % 0x400_0000;
     // t is q * q + q - m * 2^52, summed modulo 2^64 from the top: with q nearly right no part of the sum is far from 0
-    let c = wrapping_sub_u64(a * a, m);
-    if wrapping_add_u64(c, 0x2000_0000) < 0x4000_0000 {
-        let d = wrapping_add_u64(c << 25, a * b);
-        if wrapping_add_u64(d, 0x1000_0000) < 0x4000_0000 {
-            let t = wrapping_add_u64(d << 27, b * b + q);
+    let c = (a * a).wrapping_sub(m);
+    if c.wrapping_add(0x2000_0000) < 0x4000_0000 {
+        let d = (c << 25).wrapping_add(a * b);
+        if d.wrapping_add(0x1000_0000) < 0x4000_0000 {
+            let t = (d << 27).wrapping_add(b * b + q);
             if t < 4 * q - 2 {
                 return lowered(q, t);
             }
@@ -111,7 +109,7 @@ fn lift(t: u64) -> u32
     requires { (0 < t) × (t < 2 ^ 52) }
     ensures { (2 ^ 52 ≤ t * 2 ^ result) × (t * 2 ^ result < 2 ^ 53) × (result ≤ 52) }
 {
-    u64::leading_zeros(t) - 11
+    t.leading_zeros() - 11
 }
 
 // m * 4^k; and, for the guess, the bits of a double that is not subnormal and a power of 4 times as large.
@@ -130,13 +128,9 @@ fn paired(m: u64, e: u64, i: u64) -> Scaled
 {
     let k = e / 2;
     if e % 2 == 0 {
-        Scaled { m: m, k: k, i: i }
+        Scaled { m, k, i }
     } else {
-        Scaled {
-            m: m + m,
-            k: k,
-            i: i,
-        }
+        Scaled { m: m + m, k, i }
     }
 }
 
@@ -163,7 +157,7 @@ fn positive_root(x: f64) -> f64
     requires { T (positive x) }
     ensures { result ≡ root x }
 {
-    let b = f64::to_bits(x);
+    let b = x.to_bits();
     let s = radicand(b);
     let q = nearest(s.m, s.i);
     f64::from_bits(s.k * 0x10_0000_0000_0000 + q)
@@ -174,7 +168,9 @@ pub fn sqrt(x: f64) -> f64
 {
     if 0.0 < x {
         if x < 1.0 / 0.0 { positive_root(x) } else { x }
+    } else if x == 0.0 {
+        x
     } else {
-        if x == 0.0 { x } else { 0.0 / 0.0 }
+        0.0 / 0.0
     }
 }

@@ -1,9 +1,8 @@
 -- The tree of correlations and its leaf order, with which both allocators begin. Definitions only.
 use Rattle.std.specs.Prelude.{ℕ, ◌-◌, ◌*◌, ◌≡◌, not, List, [], ◌∷◌, ◌++◌, ltb, eqb, length, Float}
 use Rattle.arithmetic.specs.Constants.{pz}
-use Rattle.refusal.specs.Table.{Line, first}
+use Rattle.refusal.specs.Table.{Line, first, Outcome}
 use Rattle.refusal.specs.declared.Refusal.TheVariants.{NoData, DimensionMismatch, ShortBuffer}
-use Rattle.refusal.specs.declared.Outcome.{Outcome}
 use Rattle.lent.specs.Grid.{grid}
 use Rattle.lent.specs.Lent.{sizes, laid}
 use Rattle.stats.specs.Covariance.{correlation_cell}

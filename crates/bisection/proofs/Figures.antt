@@ -11,13 +11,12 @@ use Rattle.refusal.specs.Refusal.{number_of}
 use Rattle.refusal.specs.Table.{first}
 use Rattle.lent.specs.Count.{count}
 use Rattle.lent.specs.Grid.{tab, sum_to, sum_on, sum_rows, any_to}
-use Rattle.lent.specs.Lent.{over_limit, other_length, sizes, laid, answer_of}
-use Rattle.lent.specs.declared.Answer.{Answer}
-use Rattle.lent.specs.declared.Answer.TheVariants as answer
+use Rattle.lent.specs.Lent.{over_limit, other_length, sizes, laid, answer_of, Answer}
 use Rattle.tree.specs.Rows.{once, is_order}
 use Rattle.clusters.specs.Clusters.{recip, recip_sum, shares, term, variance_of, outside, any_listed_low, risk_table, size_table, variance_outcome, variance_answer}
 use Rattle.clusters.specs.Shares.{is_none, weights_in}
 use Rattle.bisection.specs.Bisection.{factor_of, sides_factor, halved, bisected, normal, bisection_shares, bisection_given, bisection_table, bisection_outcome, bisection_answer, bisection_weights}
+use Rattle.std.specs.Prelude.{Ok, Err}
 
 abbrev all : List Bool → Bool
 all [] = true
@@ -39,8 +38,8 @@ bits (x ∷ l) = to_bits binary64 x ∷ bits l
 
 -- 0, or the refusal's number
 abbrev of_answer : Answer → ℕ
-of_answer (answer.Matrix r c) = 0
-of_answer (answer.Refused r) = number_of r
+of_answer (Ok s) = 0
+of_answer (Err r) = number_of r
 
 -- the number, and a buffer of `room` entries
 abbrev weights : List ℕ → ℕ → ℕ → List ℕ → ℕ → List ℕ

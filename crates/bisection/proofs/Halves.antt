@@ -1,27 +1,28 @@
 -- The laws of halving, and of dividing by the sum. Assumes nothing.
-use Prim.Native.Nat.{ℕ, zero, suc, ◌+◌, ◌-◌, ◌<◌, ◌≤◌}
+use Prim.Native.Nat.{ℕ, zero, suc, ◌-◌, ◌≤◌}
 use mathlib.Core.Path.{◌≡◌, refl, sym, ap, subst, ◌∙◌}
 use mathlib.Core.Bool.{Bool, true, false, cond}
 use mathlib.Core.List.{List, [], ◌∷◌}
 use native.Mathlib.Nat.{not-suc-le-zero, le_refl, le_antisymm}
 use native.Mathlib.Omega.{arith}
 use lib.ListN.{length, get_or, set, take, drop, length-drop, length-set, length-replicate}
-use lib.Seq.{length-take-le, take_all, get_or-take, get_or-drop}
+use lib.Seq.{length-take-le, take_all}
 use lib.Ieee.{Float, nan, binary64, mul, sub, div, lt}
 use Rattle.arithmetic.specs.Constants.{pz, unit}
+use Rattle.refusal.specs.Table.{Outcome}
 use Rattle.refusal.specs.declared.Refusal.{Refusal}
 use Rattle.lent.specs.Grid.{zeros, tab, over, sum_to}
 use Rattle.lent.proofs.Laws.{length_tab, over_all_lem}
 use Rattle.clusters.specs.Clusters.{variance_answer}
 use Rattle.clusters.specs.Shares.{Shares, none, some, with_shares, with_risk}
-use Rattle.clusters.specs.Inner.{told}
-use Rattle.clusters.specs.declared.Risk.{Risk}
-use Rattle.clusters.specs.declared.Risk.TheVariants as risk
+use Rattle.clusters.specs.Inner.{shared}
 use Rattle.bisection.specs.Bisection.{factor_of, middle, sides_factor, halved, bisected, normal, bisection_shares}
+use Rattle.std.specs.Prelude.{Ok, Err}
+use Rattle.clusters.specs.Outcomes.{Risk}
 
 risk_ext : (v : Risk) (f g : Float → Shares) → ((x : Float) → f x ≡ g x) → with_risk v f ≡ with_risk v g
-risk_ext (risk.Refused k) f g h = refl
-risk_ext (risk.Of x) f g h = h x
+risk_ext (Err k) f g h = refl
+risk_ext (Ok x) f g h = h x
 
 then_ext : (s t : Shares) (f g : List Float → Shares) → s ≡ t → ((x : List Float) → f x ≡ g x) → with_shares s f ≡ with_shares t g
 then_ext s t f g e h = ap (λ (q : Shares). with_shares q f) e ∙ at t
@@ -42,40 +43,19 @@ right_length part = length-drop (middle part) part
 rest_whole : (part : List ℕ) → take (length part - middle part) (drop (middle part) part) ≡ drop (middle part) part
 rest_whole part = take_all (length part - middle part) (drop (middle part) part) (let r = right_length part in omega arith)
 
-pub left_fits : (part : List ℕ) → middle part ≡ length (take (middle part) part)
-left_fits part = sym (left_length part)
-
-pub left_less : (part : List ℕ) → 2 ≤ length part → length (take (middle part) part) < length part
-left_less part h = let e = left_length part in omega arith
-
-pub right_less : (part : List ℕ) → 2 ≤ length part → length (take (length part - middle part) (drop (middle part) part)) < length part
-right_less part h = let e = right_length part in rw (rest_whole part) (omega arith)
-
--- their assets are the part's
-module _ (part : List ℕ) (room : ℕ) (all : (k : ℕ) → k < length part → get_or part k 0 < room) where
-  pub left_in : (k : ℕ) → k < length (take (middle part) part) → get_or (take (middle part) part) k 0 < room
-  left_in k h =
-      let l = left_length part in
-      rw (get_or-take (middle part) part k 0 (omega arith)) (all k (omega arith))
-
-  pub right_in : (k : ℕ) → k < length (take (length part - middle part) (drop (middle part) part)) → get_or (take (length part - middle part) (drop (middle part) part)) k 0 < room
-  right_in =
-      let r = right_length part in
-      rw (rest_whole part) (λ k h. rw (get_or-drop (middle part) part k 0) (all (middle part + k) (omega arith)))
-
 -- ---- the factor of two halves
 
 module _ (cov : List Float) (n : ℕ) (part : List ℕ) where
-  pub split_left : (v : Risk) (k : Refusal) → v ≡ variance_answer cov n n (take (middle part) part) → v ≡ risk.Refused k → v ≡ sides_factor cov n part
+  pub split_left : (v : Risk) (k : Refusal) → v ≡ variance_answer cov n n (take (middle part) part) → v ≡ Err k → Err k ≡ sides_factor cov n part
   unfolding sides_factor
-  split_left v k e h = h ∙ rw (← e, h)
+  split_left v k e h = rw (← e, h)
 
-  module _ (v w : Risk) (x : Float) (e : v ≡ variance_answer cov n n (take (middle part) part)) (h : v ≡ risk.Of x) (g : w ≡ variance_answer cov n n (take (length part - middle part) (drop (middle part) part))) where
-    pub split_right : (k : Refusal) → w ≡ risk.Refused k → w ≡ sides_factor cov n part
+  module _ (v w : Risk) (x : Float) (e : v ≡ variance_answer cov n n (take (middle part) part)) (h : v ≡ Ok x) (g : w ≡ variance_answer cov n n (take (length part - middle part) (drop (middle part) part))) where
+    pub split_right : (k : Refusal) → w ≡ Err k → Err k ≡ sides_factor cov n part
     unfolding sides_factor
-    split_right k q = q ∙ rw (← rest_whole part, ← e, h, ← g, q)
+    split_right k q = rw (← rest_whole part, ← e, h, ← g, q)
 
-    pub split_both : (y f : Float) → w ≡ risk.Of y → f ≡ factor_of x y → risk.Of f ≡ sides_factor cov n part
+    pub split_both : (y f : Float) → w ≡ Ok y → f ≡ factor_of x y → Ok f ≡ sides_factor cov n part
     unfolding sides_factor
     split_both y f q p = rw (p, ← rest_whole part, ← e, h, ← g, q)
 
@@ -132,25 +112,25 @@ module _ (cov : List Float) (n : ℕ) (part : List ℕ) (w : Float) (ws : List F
   onward v = with_risk v (λ f. with_shares (bisected cov n (take (middle part) part) (mul binary64 w f) ws)
       (λ mid. bisected cov n (drop (middle part) part) (mul binary64 w (sub binary64 unit f)) mid))
 
-  pub no_split : (k : Refusal) → sides_factor cov n part ≡ risk.Refused k → bisected cov n part w ws ≡ none
+  pub no_split : (k : Refusal) → sides_factor cov n part ≡ Err k → bisected cov n part w ws ≡ none
   no_split k e = bisect_two cov n part w ws h ∙ ap onward e
 
-  module _ (f : Float) (e : sides_factor cov n part ≡ risk.Of f) (r : Bool) (mid : List Float) (one : told r mid ≡ bisected cov n (take (middle part) part) (mul binary64 w f) ws) where
+  module _ (f : Float) (e : sides_factor cov n part ≡ Ok f) (o : Outcome) (mid : List Float) (one : shared o mid ≡ bisected cov n (take (middle part) part) (mul binary64 w f) ws) where
     abbrev second : Shares → Shares
     second s = with_shares s (λ m. bisected cov n (drop (middle part) part) (mul binary64 w (sub binary64 unit f)) m)
 
-    went : bisected cov n part w ws ≡ second (told r mid)
+    went : bisected cov n part w ws ≡ second (shared o mid)
     went = bisect_two cov n part w ws h ∙ ap onward e ∙ ap second (sym one)
 
-    pub left_refused : r ≡ false → bisected cov n part w ws ≡ none
-    unfolding told
-    left_refused q = went ∙ ap (λ (b : Bool). second (told b mid)) q
+    pub left_refused : (k : Refusal) → o ≡ Err k → bisected cov n part w ws ≡ none
+    unfolding shared
+    left_refused k q = went ∙ ap (λ (p : Outcome). second (shared p mid)) q
 
-    pub both_halves : {s : Shares} → r ≡ true → s ≡ bisected cov n (take (length part - middle part) (drop (middle part) part)) (mul binary64 w (sub binary64 unit f)) mid → s ≡ bisected cov n part w ws
-    unfolding told
+    pub both_halves : {s : Shares} → o ≡ Ok tt → s ≡ bisected cov n (take (length part - middle part) (drop (middle part) part)) (mul binary64 w (sub binary64 unit f)) mid → s ≡ bisected cov n part w ws
+    unfolding shared
     both_halves q two =
         two ∙ ap (λ (p : List ℕ). bisected cov n p (mul binary64 w (sub binary64 unit f)) mid) (rest_whole part)
-        ∙ sym (went ∙ ap (λ (b : Bool). second (told b mid)) q)
+        ∙ sym (went ∙ ap (λ (p : Outcome). second (shared p mid)) q)
 
 -- ---- dividing in place
 
@@ -168,13 +148,13 @@ module _ (ws after : List Float) (s : Float) (e : s ≡ sum_to (length ws) (λ k
 
 -- ---- the weights
 
-module _ (cov : List Float) (n : ℕ) (order : List ℕ) (r : Bool) (mid : List Float) (e : told r mid ≡ bisected cov n order unit (zeros n)) where
-  pub share_no : r ≡ false → none ≡ bisection_shares cov n order
-  unfolding bisection_shares told
-  share_no h = rw (← e, h)
+module _ (cov : List Float) (n : ℕ) (order : List ℕ) (o : Outcome) (mid : List Float) (e : shared o mid ≡ bisected cov n order unit (zeros n)) where
+  pub share_no : (k : Refusal) → o ≡ Err k → none ≡ bisection_shares cov n order
+  unfolding bisection_shares shared
+  share_no k h = rw (← e, h)
 
-  pub share_yes : r ≡ true → (after : List Float) → after ≡ normal mid → some after ≡ bisection_shares cov n order
-  unfolding bisection_shares told
+  pub share_yes : o ≡ Ok tt → (after : List Float) → after ≡ normal mid → some after ≡ bisection_shares cov n order
+  unfolding bisection_shares shared
   share_yes h after g = rw (← e, h, g)
 
 -- ---- there are as many weights as assets
@@ -185,8 +165,8 @@ Long k none = Unit
 Long k (some ws) = length ws ≡ k
 
 long_risk : (k : ℕ) (v : Risk) (f : Float → Shares) → ((x : Float) → Long k (f x)) → Long k (with_risk v f)
-long_risk k (risk.Refused r) f h = tt
-long_risk k (risk.Of x) f h = h x
+long_risk k (Err r) f h = tt
+long_risk k (Ok x) f h = h x
 
 long_then : (k : ℕ) (s : Shares) (f : List Float → Shares) → Long k s → ((ws : List Float) → length ws ≡ k → Long k (f ws)) → Long k (with_shares s f)
 long_then k none f l h = tt

@@ -1,19 +1,16 @@
 -- Document 01, "Sharing out": HRP halves the leaf order. Definitions only.
-use Rattle.std.specs.Prelude.{ℕ, zero, suc, ◌/◌, not, cond, List, [], ◌∷◌, ◌++◌, ltb, eqb, length, get_or, set, take, drop, Float}
+use Rattle.std.specs.Prelude.{ℕ, zero, suc, ◌/◌, not, cond, List, [], ◌∷◌, ◌++◌, ltb, eqb, length, get_or, set, take, drop, Float, Ok, Err}
 use Rattle.std.specs.Float.{nan, binary64}
 use Rattle.std.specs.Float.Ieee.{sub, mul, div, lt}
 use Rattle.arithmetic.specs.Constants.{pz, unit}
-use Rattle.refusal.specs.Table.{Line, first}
+use Rattle.refusal.specs.Table.{Line, first, Outcome}
 use Rattle.refusal.specs.declared.Refusal.TheVariants.{NoData, DimensionMismatch, ShortBuffer, NoTree}
-use Rattle.refusal.specs.declared.Outcome.{Outcome}
 use Rattle.lent.specs.Grid.{zeros, tab, sum_to}
-use Rattle.lent.specs.Lent.{sizes, laid, answer_of}
-use Rattle.lent.specs.declared.Answer.{Answer}
+use Rattle.lent.specs.Lent.{sizes, laid, answer_of, Answer}
 use Rattle.tree.specs.Rows.{is_order}
 use Rattle.clusters.specs.Clusters.{variance_answer}
 use Rattle.clusters.specs.Shares.{Shares, some, with_shares, with_risk, is_none, weights_in}
-use Rattle.clusters.specs.declared.Risk.{Risk}
-use Rattle.clusters.specs.declared.Risk.TheVariants as risk
+use Rattle.clusters.specs.Outcomes.{Risk}
 -- "Factor 1 − l/(l + r + EPSILON), not clamped."
 unfoldable pub use Rattle.clusters.specs.Shares.{factor_of}
 
@@ -23,9 +20,9 @@ middle part = length part / 2
 
 -- the factor of two sides, where both have a variance
 abbrev pub factor_of_both : Risk → Risk → Risk
-factor_of_both (risk.Refused k) r = risk.Refused k
-factor_of_both (risk.Of x) (risk.Refused k) = risk.Refused k
-factor_of_both (risk.Of x) (risk.Of y) = risk.Of (factor_of x y)
+factor_of_both (Err k) r = Err k
+factor_of_both (Ok x) (Err k) = Err k
+factor_of_both (Ok x) (Ok y) = Ok (factor_of x y)
 
 unfoldable pub sides_factor : List Float → ℕ → List ℕ → Risk
 sides_factor cov n part = factor_of_both (variance_answer cov n n (take (middle part) part)) (variance_answer cov n n (drop (middle part) part))

@@ -13,8 +13,6 @@ use lib.Dec.{ltb}
 use lib.ListN.{length, get_or, take, drop, length-replicate}
 use borrow.Author.Tests.{ltb-true, ltb-false, lt-ltb, le-ltb, eqb-false, ne_eqb, not-false}
 use Rattle.refusal.specs.declared.Refusal.{Refusal}
-use Rattle.refusal.specs.declared.Outcome.{Outcome}
-use Rattle.refusal.specs.declared.Outcome.TheVariants.{Done, Refused}
 use Rattle.refusal.proofs.Tables.{none, table_end, table_pass}
 use Rattle.lent.specs.Grid.{tab, over, noughts}
 use Rattle.lent.proofs.Laws.{either}
@@ -23,16 +21,12 @@ use Rattle.lent.proofs.Sizes.{laid_done, laid_refused}
 use Rattle.tree.specs.Rows.{is_tree}
 use Rattle.branches.specs.Inner.{Rooted, Emptied}
 use Rattle.branches.specs.Summary.{lacks_nodes, summary_table, summary_outcome, summary_laid, lacks_part, members_table, members_outcome, part_at, part_of}
+use Rattle.std.specs.Prelude.{Ok, Err}
+use Rattle.refusal.specs.Table.{Outcome}
 
 -- ---- the tests of the lists
 
 module _ (n a b c : ℕ) where
-  pub nodes_none : n ≡ 0 → false ≡ lacks_nodes n a b c
-  unfolding lacks_nodes
-  nodes_none e =
-      let w : (room : ℕ) → ltb room (2 * n - 1) ≡ false = λ room. le-ltb room (2 * n - 1) (omega arith) in
-      rw (w a, w b, w c)
-
   pub nodes_one : a < 2 * n - 1 → true ≡ lacks_nodes n a b c
   unfolding lacks_nodes
   nodes_one h = rw (lt-ltb a (2 * n - 1) h)
@@ -94,7 +88,7 @@ pub record Summed (rows : List ℕ) (n a b c : ℕ) : Type 0 where
   pub three : 2 * n - 1 ≤ c
   pub rooted : Rooted rows n
 
-pub summary_done : (rows : List ℕ) (n a b c : ℕ) → summary_outcome rows n a b c ≡ Done → Summed rows n a b c
+pub summary_done : (rows : List ℕ) (n a b c : ℕ) → summary_outcome rows n a b c ≡ Ok tt → Summed rows n a b c
 unfolding summary_outcome summary_table
 summary_done rows n a b c e =
     let s = none (summary_table rows n a b c) e in
@@ -108,7 +102,7 @@ summary_done rows n a b c e =
       rooted = record { some = omega arith; tree = not-false (is_tree rows n) s.1.1.1.0 };
     }
 
-pub summary_passes : {rows : List ℕ} {n a b c : ℕ} → Summed rows n a b c → summary_outcome rows n a b c ≡ Done
+pub summary_passes : {rows : List ℕ} {n a b c : ℕ} → Summed rows n a b c → summary_outcome rows n a b c ≡ Ok tt
 unfolding summary_outcome summary_table
 summary_passes {rows} {n} {a} {b} {c} p =
     let some : 1 ≤ n = p.rooted.some in
@@ -123,11 +117,11 @@ emptied n room list z h =
 
 -- the steps of `summarize`, which has judged, and then cleared the lists
 module _ (f : ℕ → ℕ) (n room : ℕ) (said : Outcome) (list : List ℕ) where
-  pub summary_refused : (r : Refusal) → said ≡ Refused r → list ≡ noughts room → list ≡ summary_laid f said n room
+  pub summary_refused : (r : Refusal) → said ≡ Err r → list ≡ noughts room → list ≡ summary_laid f said n room
   unfolding summary_laid
   summary_refused r h z = z ∙ laid_refused 0 said r room (tab (2 * n - 1) f) h
 
-  pub summary_filled : (blanks : List ℕ) → said ≡ Done → blanks ≡ noughts room → list ≡ over (tab (2 * n - 1) f) blanks → list ≡ summary_laid f said n room
+  pub summary_filled : (blanks : List ℕ) → said ≡ Ok tt → blanks ≡ noughts room → list ≡ over (tab (2 * n - 1) f) blanks → list ≡ summary_laid f said n room
   unfolding summary_laid
   summary_filled blanks h z e = e ∙ ap (over (tab (2 * n - 1) f)) z ∙ laid_done 0 said room (tab (2 * n - 1) f) h
 
@@ -141,7 +135,7 @@ pub record Within (order firsts sizes : List ℕ) (n v : ℕ) : Type 0 where
   pub sized : v < length sizes
   pub fits : get_or firsts v 0 + get_or sizes v 0 ≤ length order
 
-pub within_done : (order firsts sizes : List ℕ) (n v : ℕ) → members_outcome order firsts sizes n v ≡ Done → Within order firsts sizes n v
+pub within_done : (order firsts sizes : List ℕ) (n v : ℕ) → members_outcome order firsts sizes n v ≡ Ok tt → Within order firsts sizes n v
 unfolding members_outcome members_table
 within_done order firsts sizes n v e =
     let s = none (members_table order firsts sizes n v) e in
@@ -149,7 +143,7 @@ within_done order firsts sizes n v e =
     let part = lacks_none (length order) firsts sizes v s.1.1.1.0 in
     record { most = ltb-false 64 n s.0; some = omega arith; node = ltb-false (2 * n - 2) v s.1.1.0; begun = part.0; sized = part.1; fits = part.2 }
 
-pub within_passes : {order firsts sizes : List ℕ} {n v : ℕ} → Within order firsts sizes n v → members_outcome order firsts sizes n v ≡ Done
+pub within_passes : {order firsts sizes : List ℕ} {n v : ℕ} → Within order firsts sizes n v → members_outcome order firsts sizes n v ≡ Ok tt
 unfolding members_outcome members_table
 within_passes {order} {firsts} {sizes} {n} {v} p =
     let some : 1 ≤ n = p.some in
@@ -158,14 +152,14 @@ within_passes {order} {firsts} {sizes} {n} {v} p =
 
 -- the steps of `members`
 module _ (order firsts sizes : List ℕ) (n v : ℕ) (said : Outcome) (e : said ≡ members_outcome order firsts sizes n v) where
-  pub lookup_none : (r : Refusal) → said ≡ Refused r → [] ≡ part_of order firsts sizes n v
+  pub lookup_none : (r : Refusal) → said ≡ Err r → [] ≡ part_of order firsts sizes n v
   unfolding part_of part_at
   lookup_none r h = rw (← e, h)
 
-  pub lookup_within : said ≡ Done → Within order firsts sizes n v
+  pub lookup_within : said ≡ Ok tt → Within order firsts sizes n v
   lookup_within h = within_done order firsts sizes n v (sym e ∙ h)
 
-  pub lookup_some : said ≡ Done → take (get_or firsts v 0 + get_or sizes v 0 - get_or firsts v 0) (drop (get_or firsts v 0) order) ≡ part_of order firsts sizes n v
+  pub lookup_some : said ≡ Ok tt → take (get_or firsts v 0 + get_or sizes v 0 - get_or firsts v 0) (drop (get_or firsts v 0) order) ≡ part_of order firsts sizes n v
   unfolding part_of part_at
   lookup_some h =
       let q : get_or firsts v 0 + get_or sizes v 0 - get_or firsts v 0 ≡ get_or sizes v 0 = omega arith in

@@ -5,9 +5,7 @@ use mathlib.Core.List.{List, [], ◌∷◌, map}
 use Prim.Native.Nat.{ℕ}
 use lib.Dec.{eqb}
 use Rattle.refusal.specs.Refusal.{number_of}
-use Rattle.refusal.specs.Table.{first}
-use Rattle.refusal.specs.declared.Outcome.{Outcome}
-use Rattle.refusal.specs.declared.Outcome.TheVariants.{Done, Refused}
+use Rattle.refusal.specs.Table.{first, Outcome}
 use Rattle.lent.specs.Count.{count, over_all}
 use Rattle.lent.specs.Grid.{tab}
 use Rattle.lent.specs.Lent.{laid}
@@ -15,6 +13,7 @@ use Rattle.tree.specs.Rows.{below, once, is_tree}
 use Rattle.tree.specs.Tree.{grow, tree_at, leaves}
 use Rattle.branches.specs.Branch.{walk, branches, find, first_of, size_of, depth_of, members_of, subtotal}
 use Rattle.branches.specs.Summary.{lacks_nodes, summary_table, summary_outcome, summary_laid, lacks_part, members_table, members_outcome, part_at, part_of}
+use Rattle.std.specs.Prelude.{Ok, Err}
 
 abbrev all : List Bool → Bool
 all [] = true
@@ -27,12 +26,12 @@ are (x ∷ xs) [] = false
 are (x ∷ xs) (y ∷ ys) = eqb x y && are xs ys
 
 abbrev done : Outcome → Bool
-done Done = true
-done (Refused r) = false
+done (Ok _) = true
+done (Err r) = false
 
 abbrev refused : Outcome → ℕ → Bool
-refused Done number = false
-refused (Refused r) number = eqb (number_of r) number
+refused (Ok _) number = false
+refused (Err r) number = eqb (number_of r) number
 
 -- document 01's job: "rows [0,1],[2,3], leaves 2, 0, 1"
 abbrev three : List ℕ
@@ -46,16 +45,16 @@ abbrev summaries : List Bool
 summaries =
     -- in lists with an entry to spare
     done (summary_outcome three 3 6 5 5)
-    ∷ are (summary_laid (first_of three 3) Done 3 6) (1 ∷ 2 ∷ 0 ∷ 1 ∷ 0 ∷ 0 ∷ [])
-    ∷ are (summary_laid (size_of three 3) Done 3 6) (1 ∷ 1 ∷ 1 ∷ 2 ∷ 3 ∷ 0 ∷ [])
-    ∷ are (summary_laid (depth_of three 3) Done 3 6) (2 ∷ 2 ∷ 1 ∷ 1 ∷ 0 ∷ 0 ∷ [])
-    ∷ are (summary_laid (first_of four 4) Done 4 7) (0 ∷ 1 ∷ 2 ∷ 3 ∷ 0 ∷ 2 ∷ 0 ∷ [])
-    ∷ are (summary_laid (size_of four 4) Done 4 7) (1 ∷ 1 ∷ 1 ∷ 1 ∷ 2 ∷ 2 ∷ 4 ∷ [])
-    ∷ are (summary_laid (depth_of four 4) Done 4 7) (2 ∷ 2 ∷ 2 ∷ 2 ∷ 1 ∷ 1 ∷ 0 ∷ [])
+    ∷ are (summary_laid (first_of three 3) (Ok tt) 3 6) (1 ∷ 2 ∷ 0 ∷ 1 ∷ 0 ∷ 0 ∷ [])
+    ∷ are (summary_laid (size_of three 3) (Ok tt) 3 6) (1 ∷ 1 ∷ 1 ∷ 2 ∷ 3 ∷ 0 ∷ [])
+    ∷ are (summary_laid (depth_of three 3) (Ok tt) 3 6) (2 ∷ 2 ∷ 1 ∷ 1 ∷ 0 ∷ 0 ∷ [])
+    ∷ are (summary_laid (first_of four 4) (Ok tt) 4 7) (0 ∷ 1 ∷ 2 ∷ 3 ∷ 0 ∷ 2 ∷ 0 ∷ [])
+    ∷ are (summary_laid (size_of four 4) (Ok tt) 4 7) (1 ∷ 1 ∷ 1 ∷ 1 ∷ 2 ∷ 2 ∷ 4 ∷ [])
+    ∷ are (summary_laid (depth_of four 4) (Ok tt) 4 7) (2 ∷ 2 ∷ 2 ∷ 2 ∷ 1 ∷ 1 ∷ 0 ∷ [])
     -- one asset
-    ∷ are (summary_laid (first_of [] 1) Done 1 1) (0 ∷ [])
-    ∷ are (summary_laid (size_of [] 1) Done 1 1) (1 ∷ [])
-    ∷ are (summary_laid (depth_of [] 1) Done 1 1) (0 ∷ [])
+    ∷ are (summary_laid (first_of [] 1) (Ok tt) 1 1) (0 ∷ [])
+    ∷ are (summary_laid (size_of [] 1) (Ok tt) 1 1) (1 ∷ [])
+    ∷ are (summary_laid (depth_of [] 1) (Ok tt) 1 1) (0 ∷ [])
     -- "from the root down, left first"
     ∷ are (map (λ b. b.node) (branches three 3)) (4 ∷ 2 ∷ 3 ∷ 0 ∷ 1 ∷ [])
     ∷ are (map (λ b. b.node) (branches four 4)) (6 ∷ 4 ∷ 0 ∷ 1 ∷ 5 ∷ 2 ∷ 3 ∷ [])

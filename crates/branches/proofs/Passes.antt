@@ -89,9 +89,6 @@ measured {rows} {n} p v sizes before e le wide = record {
   each = λ u lt. ap (λ (l : List ℕ). get_or l u 0) e ∙ get_d_over (tab v (size_of rows n)) before u 0 (omega (arith, length_tab v (size_of rows n))) ∙ get_d_tab v (size_of rows n) u 0 lt;
 }
 
-pub measure_same : (rows : List ℕ) (n v : ℕ) (sizes before : List ℕ) → sizes ≡ over (tab v (size_of rows n)) before → v ≤ 2 * n - 1 → 2 * n - 1 ≤ length before → length sizes ≡ length before
-measure_same rows n v sizes before e le wide = ap length e ∙ length_over (tab v (size_of rows n)) before (omega (arith, length_tab v (size_of rows n)))
-
 -- ---- a pass down: the row's entries and its children's places are there
 
 module _ {rows : List ℕ} {n : ℕ} {g h : ℕ → ℕ → ℕ} {B : ℕ → ℕ} {M room k : ℕ} {x : List ℕ} (p : Rooted rows n) (s : Descent rows n g h B M room k x) (wide : 2 * n - 1 ≤ room) (pos : 0 < k) where

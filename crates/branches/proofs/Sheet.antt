@@ -15,8 +15,6 @@ use native.Mathlib.Nat.{le_refl}
 use native.Mathlib.Omega.{arith}
 use lib.ListN.{length, get_or, take, drop, set, length-drop, length-append, get_or-append}
 use lib.Seq.{take-append-le, drop-append-le}
-use Rattle.refusal.specs.declared.Outcome.{Outcome}
-use Rattle.refusal.specs.declared.Outcome.TheVariants.{Done}
 use Rattle.lent.specs.Count.{over_all}
 use Rattle.lent.specs.Grid.{tab, noughts}
 use Rattle.lent.specs.Lent.{laid}
@@ -38,6 +36,8 @@ use Rattle.branches.proofs.Parts.{found, fork_size, size_is, part_is, first_is, 
 use Rattle.branches.proofs.Descent.{descent_start, descent_step}
 use Rattle.branches.proofs.Passes.{Placing, Sinking, left_low, right_low, size_row, size_few}
 use Rattle.branches.proofs.Answer.{Within, within_passes, summary_passes}
+use Rattle.std.specs.Prelude.{Ok}
+use Rattle.refusal.specs.Table.{Outcome}
 
 module _ {rows : List ℕ} {n : ℕ} (p : Rooted rows n) where
   some : 1 ≤ n
@@ -195,7 +195,7 @@ module _ {rows : List ℕ} {n : ℕ} (p : Rooted rows n) where
       (omega (arith, order_size rows n p.tree some)) v h in
       omega (arith, q.0, leaves_some v h)
 
-  entry_at : (f : ℕ → ℕ) (room v : ℕ) → v ≤ 2 * n - 2 → (v < length (summary_laid f Done n room)) × (get_or (summary_laid f Done n room) v 0 ≡ f v)
+  entry_at : (f : ℕ → ℕ) (room v : ℕ) → v ≤ 2 * n - 2 → (v < length (summary_laid f (Ok tt) n room)) × (get_or (summary_laid f (Ok tt) n room) v 0 ≡ f v)
   unfolding summary_laid laid
   entry_at f room v h =
       let w = 2 * n - 1 in
@@ -205,7 +205,7 @@ module _ {rows : List ℕ} {n : ℕ} (p : Rooted rows n) where
 
   -- the order has the root's leaves, and after them what it likes
   module _ (most : n ≤ 64) (rest : List ℕ) (a b v : ℕ) (h : v ≤ 2 * n - 2) where
-    inside : Within (leaves_of rows n (2 * n - 2) ++ rest) (summary_laid (first_of rows n) Done n a) (summary_laid (size_of rows n) Done n b) n v
+    inside : Within (leaves_of rows n (2 * n - 2) ++ rest) (summary_laid (first_of rows n) (Ok tt) n a) (summary_laid (size_of rows n) (Ok tt) n b) n v
     inside =
         let x = entry_at (first_of rows n) a v h in
         let y = entry_at (size_of rows n) b v h in
@@ -218,10 +218,10 @@ module _ {rows : List ℕ} {n : ℕ} (p : Rooted rows n) where
           fits = omega (arith, x.1, y.1, first_fits v h, order_size rows n p.tree some, length-append (leaves_of rows n (2 * n - 2)) rest);
         }
 
-    pub members_done : members_outcome (leaves_of rows n (2 * n - 2) ++ rest) (summary_laid (first_of rows n) Done n a) (summary_laid (size_of rows n) Done n b) n v ≡ Done
+    pub members_done : members_outcome (leaves_of rows n (2 * n - 2) ++ rest) (summary_laid (first_of rows n) (Ok tt) n a) (summary_laid (size_of rows n) (Ok tt) n b) n v ≡ Ok tt
     members_done = within_passes inside
 
-    pub members_are : part_of (leaves_of rows n (2 * n - 2) ++ rest) (summary_laid (first_of rows n) Done n a) (summary_laid (size_of rows n) Done n b) n v ≡ leaves_of rows n v
+    pub members_are : part_of (leaves_of rows n (2 * n - 2) ++ rest) (summary_laid (first_of rows n) (Ok tt) n a) (summary_laid (size_of rows n) (Ok tt) n b) n v ≡ leaves_of rows n v
     unfolding part_of part_at members_of
     members_are =
         let all = leaves_of rows n (2 * n - 2) in
@@ -236,7 +236,7 @@ module _ {rows : List ℕ} {n : ℕ} (p : Rooted rows n) where
   -- ---- the lists of 127 that `summarize` leaves, beside the order of 64 that `quasi_diagonalization` leaves
 
   module _ (most : n ≤ 64) (said : Outcome) (e : said ≡ summary_outcome rows n 127 127 127) where
-    filled : (f : ℕ → ℕ) (list : List ℕ) → list ≡ summary_laid f said n 127 → list ≡ summary_laid f Done n 127
+    filled : (f : ℕ → ℕ) (list : List ℕ) → list ≡ summary_laid f said n 127 → list ≡ summary_laid f (Ok tt) n 127
     filled f list l = l ∙ ap (λ (o : Outcome). summary_laid f o n 127) (e ∙ summary_passes (record { most = most; one = omega arith; two = omega arith; three = omega arith; rooted = p }))
 
     pub filled_at : (f : ℕ → ℕ) (list : List ℕ) → list ≡ summary_laid f said n 127 → (v : ℕ) → v ≤ 2 * n - 2 → (v < length list) × (get_or list v 0 ≡ f v)

@@ -1,9 +1,7 @@
 -- Document 02, request 13: what the public calls answer and leave in their lists. Definitions only.
-use Rattle.std.specs.Prelude.{ℕ, ◌+◌, ◌-◌, ◌*◌, Bool, not, ◌||◌, List, [], ◌∷◌, ltb, eqb, length, get_or, take, drop}
-use Rattle.refusal.specs.Table.{Line, first}
+use Rattle.std.specs.Prelude.{ℕ, ◌+◌, ◌-◌, ◌*◌, Bool, not, ◌||◌, List, [], ◌∷◌, ltb, eqb, length, get_or, take, drop, Ok, Err}
+use Rattle.refusal.specs.Table.{Line, first, Outcome}
 use Rattle.refusal.specs.declared.Refusal.TheVariants.{NoData, OverLimit, ShortBuffer, NoTree}
-use Rattle.refusal.specs.declared.Outcome.{Outcome}
-use Rattle.refusal.specs.declared.Outcome.TheVariants.{Done, Refused}
 use Rattle.lent.specs.Grid.{tab}
 use Rattle.lent.specs.Lent.{most_assets, laid}
 use Rattle.tree.specs.Rows.{is_tree}
@@ -42,8 +40,8 @@ members_outcome order firsts sizes n v = first (members_table order firsts sizes
 
 -- "handed back as that part": as many entries as the node's size, from its first place on; none where the call refuses
 unfoldable pub part_at : Outcome → List ℕ → ℕ → ℕ → List ℕ
-part_at Done order start size = take size (drop start order)
-part_at (Refused r) order start size = []
+part_at (Ok _) order start size = take size (drop start order)
+part_at (Err r) order start size = []
 
 unfoldable pub part_of : List ℕ → List ℕ → List ℕ → ℕ → ℕ → List ℕ
 part_of order firsts sizes n v = part_at (members_outcome order firsts sizes n v) order (get_or firsts v 0) (get_or sizes v 0)

@@ -7,7 +7,7 @@ ghost use Rattle.branches.specs.Branch.{first_of, size_of, depth_of};
 ghost use Rattle.branches.specs.Inner.{Rooted, Measured, Emptied};
 ghost use Rattle.branches.specs.Summary.{lacks_nodes, summary_outcome, summary_laid, lacks_part, members_outcome, part_of};
 
-use refusal::{Outcome, Refusal};
+use refusal::Refusal;
 use tree::Node;
 
 // An asset has size 1, and a row's node the sizes of its two children.
@@ -31,12 +31,8 @@ fn measure(rows: &[usize], n: usize, sizes: &mut [usize])
     requires n_in_bounds { 2 * n - 1 ≤ length sizes.old }
     ensures { sizes.new ≡ over (tab (2 * n - 1) (size_of rows.now n)) sizes.old }
 {
-    let end = n + (n - 1);
-    let mut v = 0;
-    while v < end {
-        let s = size_at(rows, n, &sizes[..], v);
-        sizes[v] = s;
-        v += 1;
+    for v in 0..2 * n - 1 {
+        sizes[v] = size_at(rows, n, sizes, v);
     }
 }
 
@@ -48,9 +44,7 @@ fn descend(rows: &[usize], n: usize, sizes: &[usize], firsts: &mut [usize], dept
     ensures firsts_after { firsts.new ≡ over (tab (2 * n - 1) (first_of rows.now n)) firsts.old }
     ensures depths_after { depths.new ≡ over (tab (2 * n - 1) (depth_of rows.now n)) depths.old }
 {
-    let mut k = n - 1;
-    while k > 0 {
-        k -= 1;
+    for k in (0..n - 1).rev() {
         let left = rows[2 * k];
         let right = rows[2 * k + 1];
         let p = firsts[n + k];
@@ -68,30 +62,19 @@ fn lacks_nodes(n: usize, a: usize, b: usize, c: usize) -> bool
     requires { n ≤ 64 }
     ensures { result ≡ lacks_nodes n a b c }
 {
-    if n == 0 {
-        return false;
-    }
-    let nodes = 2 * n - 1;
-    if a < nodes {
-        return true;
-    }
-    if b < nodes {
-        return true;
-    }
-    c < nodes
+    let nodes = (2 * n).saturating_sub(1);
+    a < nodes || b < nodes || c < nodes
 }
 
 // The refusal of a summary into lists of a, b and c numbers, if there is one.
-fn judge(rows: &[usize], n: usize, a: usize, b: usize, c: usize) -> Outcome
+#[tactic(auto, unfolding(crate::specs::Summary::summary_outcome, crate::specs::Summary::summary_table, refusal::specs::Table::first, refusal::specs::Table::or_else))]
+fn judge(rows: &[usize], n: usize, a: usize, b: usize, c: usize) -> Result<(), Refusal>
     ensures { result ≡ summary_outcome rows.now n a b c }
 {
-    if lent::MOST_ASSETS < n {
-        return Outcome::Refused(Refusal::OverLimit);
-    }
-    let odd = !tree::is_tree(rows, n);
-    let rest = refusal::refuse(odd, Refusal::NoTree, Outcome::Done);
-    let rest = refusal::refuse(n == 0, Refusal::NoData, rest);
-    refusal::refuse(lacks_nodes(n, a, b, c), Refusal::ShortBuffer, rest)
+    refusal::refuse(lent::MOST_ASSETS < n, Refusal::OverLimit)?;
+    refusal::refuse(lacks_nodes(n, a, b, c), Refusal::ShortBuffer)?;
+    refusal::refuse(n == 0, Refusal::NoData)?;
+    refusal::refuse(!tree::is_tree(rows, n), Refusal::NoTree)
 }
 
 // Each node's first place in the leaf order, its size, and its depth, with zeros after them.
@@ -101,58 +84,50 @@ pub fn summarize(
     firsts: &mut [usize],
     sizes: &mut [usize],
     depths: &mut [usize],
-) -> Outcome
+) -> Result<(), Refusal>
     ensures value { result ≡ summary_outcome rows.now n (length firsts.old) (length sizes.old) (length depths.old) }
     ensures firsts_after { firsts.new ≡ summary_laid (first_of rows.now n) result n (length firsts.old) }
     ensures sizes_after { sizes.new ≡ summary_laid (size_of rows.now n) result n (length sizes.old) }
     ensures depths_after { depths.new ≡ summary_laid (depth_of rows.now n) result n (length depths.old) }
 {
     let said = judge(rows, n, firsts.len(), sizes.len(), depths.len());
-    lent::clear_numbers(firsts);
-    lent::clear_numbers(sizes);
-    lent::clear_numbers(depths);
-    let Outcome::Done = said else {
-        return said;
-    };
+    lent::clear(firsts);
+    lent::clear(sizes);
+    lent::clear(depths);
+    said?;
     measure(rows, n, sizes);
-    descend(rows, n, &sizes[..], firsts, depths);
-    said
+    descend(rows, n, sizes, firsts, depths);
+    Ok(())
 }
 
 // The summary has no node v, or its part ends past the end of an order of `len`.
 fn lacks_part(len: usize, firsts: &[usize], sizes: &[usize], v: usize) -> bool
     ensures { result ≡ lacks_part len firsts.now sizes.now v }
 {
-    if v >= firsts.len() {
+    if v >= firsts.len() || v >= sizes.len() {
         return true;
     }
-    if v >= sizes.len() {
-        return true;
-    }
-    let start = firsts[v];
-    if len < start {
-        return true;
-    }
-    len - start < sizes[v]
+    len < firsts[v] || len - firsts[v] < sizes[v]
 }
 
 // The refusal of a node's members, if there is one.
+#[tactic(auto, unfolding(crate::specs::Summary::members_outcome, crate::specs::Summary::members_table, refusal::specs::Table::first, refusal::specs::Table::or_else))]
 pub fn judge_members(
     order: &[usize],
     firsts: &[usize],
     sizes: &[usize],
     n: usize,
     node: Node,
-) -> Outcome
+) -> Result<(), Refusal>
     ensures { result ≡ members_outcome order.now firsts.now sizes.now n node.0 }
 {
-    if lent::MOST_ASSETS < n {
-        return Outcome::Refused(Refusal::OverLimit);
-    }
-    let lacking = lacks_part(order.len(), firsts, sizes, node.0);
-    let rest = refusal::refuse(lacking, Refusal::NoTree, Outcome::Done);
-    let rest = refusal::refuse(tree::is_above(node, n), Refusal::NoTree, rest);
-    refusal::refuse(n == 0, Refusal::NoData, rest)
+    refusal::refuse(lent::MOST_ASSETS < n, Refusal::OverLimit)?;
+    refusal::refuse(n == 0, Refusal::NoData)?;
+    refusal::refuse(tree::is_above(node, n), Refusal::NoTree)?;
+    refusal::refuse(
+        lacks_part(order.len(), firsts, sizes, node.0),
+        Refusal::NoTree,
+    )
 }
 
 // The members of a node: the part of the order that the summary says, and an empty one where `judge_members` refuses.
@@ -165,7 +140,7 @@ pub fn members<'a>(
 ) -> &'a [usize]
     ensures { result.now ≡ part_of order.now firsts.now sizes.now n node.0 }
 {
-    let Outcome::Done = judge_members(order, firsts, sizes, n, node) else {
+    let Ok(()) = judge_members(order, firsts, sizes, n, node) else {
         return &order[..0];
     };
     let at = node.0;

@@ -9,18 +9,13 @@ use lib.Dec.{ltb}
 use lib.ListN.{length, set, take, length-replicate}
 use lib.Ieee.{Float}
 use Rattle.arithmetic.specs.Constants.{pz}
-use Rattle.refusal.specs.Table.{Line, first, and_then}
+use Rattle.refusal.specs.Table.{Line, first, and_then, Outcome}
 use Rattle.refusal.specs.Telling.{Telling}
 use Rattle.refusal.specs.declared.Refusal.{Refusal}
 use Rattle.refusal.specs.declared.Refusal.TheVariants.{OverLimit, ShortBuffer}
-use Rattle.refusal.specs.declared.Outcome.{Outcome}
-use Rattle.refusal.specs.declared.Outcome.TheVariants.{Done, Refused}
 use Rattle.refusal.proofs.Tables.{done_refused, none, table_hit, table_pass, then_done, then_refused, both_done}
 use Rattle.lent.specs.Grid.{noughts, over}
-use Rattle.lent.specs.Lent.{is_set, answer_of, told_of, laid}
-use Rattle.lent.specs.declared.Shape.{Shape}
-use Rattle.lent.specs.declared.Answer.{Answer}
-use Rattle.lent.specs.declared.Answer.TheVariants as answer
+use Rattle.lent.specs.Lent.{is_set, answer_of, told_of, laid, Answer, Shape, size}
 use Rattle.lent.proofs.Laws.{over_push}
 use Rattle.lent.proofs.Sizes.{laid_done, laid_refused, told_as}
 use Rattle.inputs.specs.Inputs.{matrix_lines}
@@ -29,8 +24,6 @@ use Rattle.tree.specs.Order.{order_outcome, order_answer, order_laid}
 use Rattle.linkage.specs.Names.{distance_named, linkage_named}
 use Rattle.linkage.specs.Children.{children_outcome, children_answer, children_rows}
 use Rattle.linkage.specs.declared.Linkage.{Linkage}
-use Rattle.linkage.specs.declared.Joined.{Joined}
-use Rattle.linkage.specs.declared.Joined.TheVariants as joined
 use Rattle.linkage.proofs.Judged.{children_made, children_refuses}
 use Rattle.parity.specs.Parity.{ParityRoom, parity_room_lines, ParityCleared}
 use Rattle.hrp.specs.Hrp.{HrpJob, hrp_outcome, HrpAllocated}
@@ -40,11 +33,9 @@ use Rattle.linkage.specs.declared.Distance.{Distance}
 use Rattle.hierarchy.specs.Hierarchy as hierarchy
 use Rattle.hcaa.specs.Inner.{hcaa_job}
 use Rattle.hcaa.specs.Hcaa as hcaa
-use Rattle.hcaa.specs.declared.Clusters.{Clusters}
 use Rattle.metrics.specs.declared.Metric.TheVariants.{EqualWeighting}
 use Rattle.equal.specs.Equal.{EqualShares}
 use Rattle.listing.specs.Listing.{refusal_line, listed_as, bytes_in, listed_tells, ListingMade, refusal_outcome}
-use Rattle.listing.specs.declared.Listed.{Listed}
 use Rattle.job.specs.Job.{text_table, job_outcome, listing_of, sheet_of, TextListed, TextSheeted}
 use Rattle.job.specs.declared.Form.{Form}
 use Rattle.job.specs.declared.Form.TheVariants as form
@@ -52,6 +43,11 @@ use Rattle.foreign.specs.Foreign.{distance_says, linkage_says, distance_meant, l
 use Rattle.foreign.proofs.Stages.{then_assoc, number_in, told_number}
 use Rattle.foreign.proofs.Judges.{blank_length, number_done}
 use Rattle.capi.specs.Capi.{named_hrp_outcome, HrpAnswer, named_hcaa_outcome, HcaaAnswer, merge_outcome, MergeAnswer, leaf_outcome, LeafAnswer, listing_outcome, ListingAnswer, sheeted_outcome, SheetAnswer, line_outcome, LineAnswer}
+use Rattle.lent.specs.declared.Size.{Size}
+use Rattle.std.specs.Prelude.{Ok, Err}
+use Rattle.hcaa.specs.Outcomes.{Clusters}
+use Rattle.linkage.specs.Outcomes.{Joined, merged}
+use Rattle.listing.specs.Outcomes.{Listed}
 
 -- ---- hierarchical risk parity: the shapes are read from the flags, and the distance from its name
 
@@ -65,13 +61,13 @@ module _ (n : ℕ) (p : List Float) (ps ps' : Shape) (ep : ps ≡ ps') (xs : Lis
   hrp_stages = rw (e, ep, er, ec) (simp then_assoc)
 
   module _ (r : ℕ) (rows order : List ℕ) (weights correlations distances scratch : List Float) where
-    pub hrp_refused : (k : Refusal) → said ≡ Refused k → r ≡ number_in said → ParityCleared room rows order weights correlations distances scratch
+    pub hrp_refused : (k : Refusal) → said ≡ Err k → r ≡ number_in said → ParityCleared room rows order weights correlations distances scratch
         → HrpAnswer call name room r rows order weights correlations distances scratch
     hrp_refused k h a z =
-        let o : named_hrp_outcome call name room ≡ Refused k = hrp_stages ∙ then_refused said _ k h in
+        let o : named_hrp_outcome call name room ≡ Err k = hrp_stages ∙ then_refused said _ k h in
         record { answer = a ∙ ap number_in (h ∙ sym o); buffers = cleared _ k _ _ n room rows order weights correlations distances scratch o z }
 
-    pub hrp_done : said ≡ Done → (o : Outcome) → r ≡ number_in o → HrpAllocated (hrp_job n p ps xs rs c cs by shrink (distance_meant (distance_named name))) room o rows order weights correlations distances scratch
+    pub hrp_done : said ≡ Ok tt → (o : Outcome) → r ≡ number_in o → HrpAllocated (hrp_job n p ps xs rs c cs by shrink (distance_meant (distance_named name))) room o rows order weights correlations distances scratch
         → HrpAnswer call name room r rows order weights correlations distances scratch
     hrp_done h o a z =
         let s : named_hrp_outcome call name room ≡ hrp_outcome call room = hrp_stages ∙ then_done said _ h in
@@ -82,7 +78,7 @@ module _ (n : ℕ) (p : List Float) (ps ps' : Shape) (ep : ps ≡ ps') (xs : Lis
 
 -- buffers that are cleared are what a refusal leaves
 hcaa_cleared : (o : Outcome) (k : Refusal) (q : hierarchy.Rule) (d : Distance) (l : Linkage) (cov : List Float) (n : ℕ) (room : hierarchy.Room) (rows order : List ℕ) (weights scratch : List Float)
-    → o ≡ Refused k → hierarchy.Cleared room rows order weights scratch → hierarchy.HierarchyLaid o q d l cov n room rows order weights scratch
+    → o ≡ Err k → hierarchy.Cleared room rows order weights scratch → hierarchy.HierarchyLaid o q d l cov n room rows order weights scratch
 hcaa_cleared o k q d l cov n room rows order weights scratch e z =
     record {
       rows_are = z.rows_are ∙ laid_refused 0 o k _ _ e;
@@ -107,10 +103,10 @@ module _ (n : ℕ) (p : List Float) (ps ps' : Shape) (ep : ps ≡ ps') (xs : Lis
   hcaa_stages = rw (f, ep, er, ec) (simp then_assoc)
 
   module _ (r : ℕ) (rows order : List ℕ) (weights scratch : List Float) (asked : List ℕ) where
-    pub hcaa_refused : (q : Refusal) → said ≡ Refused q → r ≡ number_in said → asked ≡ asked_laid said count → hierarchy.Cleared room rows order weights scratch
+    pub hcaa_refused : (q : Refusal) → said ≡ Err q → r ≡ number_in said → asked ≡ asked_laid said count → hierarchy.Cleared room rows order weights scratch
         → HcaaAnswer split link name room count r rows order weights scratch asked
     hcaa_refused q h a t z =
-        let o : named_hcaa_outcome split link name room count ≡ Refused q = hcaa_stages ∙ then_refused said _ q h in
+        let o : named_hcaa_outcome split link name room count ≡ Err q = hcaa_stages ∙ then_refused said _ q h in
         record {
           answer = a ∙ ap number_in (h ∙ sym o);
           buffers = hcaa_cleared _ q _ _ _ _ n room rows order weights scratch o z;
@@ -118,7 +114,7 @@ module _ (n : ℕ) (p : List Float) (ps ps' : Shape) (ep : ps ≡ ps') (xs : Lis
           equal_shares = equal_for split _ r rows weights (a ∙ ap number_in (h ∙ sym o)) (record { shares = λ d m. absurd (done_refused q (sym d ∙ o)) });
         }
 
-    pub hcaa_done : said ≡ Done → (k' : Clusters) → k' ≡ k → (d : Distance) → d ≡ distance_meant (distance_named name) → (l : Linkage) → l ≡ linkage_meant (linkage_named link)
+    pub hcaa_done : said ≡ Ok tt → (k' : Clusters) → k' ≡ k → (d : Distance) → d ≡ distance_meant (distance_named name) → (l : Linkage) → l ≡ linkage_meant (linkage_named link)
         → (o : Outcome) → r ≡ number_in o → asked ≡ asked_laid o count → hcaa.HcaaAllocated (hcaa_job n p ps xs rs c cs e given metric method conf k' by d l) room o rows order weights scratch
         → HcaaAnswer split link name room count r rows order weights scratch asked
     hcaa_done h k' ek d ed l el o a t z =
@@ -140,38 +136,38 @@ module _ (xs : List Float) (rows w : ℕ) (name : List ℕ) (room count : ℕ) (
   unfolding merge_outcome
   merge_stages = rw e (simp then_assoc)
 
-  pub merge_refused : (k : Refusal) → said ≡ Refused k → (r : ℕ) → r ≡ number_in said → (out : List ℕ) → out ≡ noughts room → MergeAnswer xs rows w name room count r out blank
+  pub merge_refused : (k : Refusal) → said ≡ Err k → (r : ℕ) → r ≡ number_in said → (out : List ℕ) → out ≡ noughts room → MergeAnswer xs rows w name room count r out blank
   merge_refused k h r a out y =
-      let o : merge_outcome xs rows w name room count ≡ Refused k = merge_stages ∙ then_refused said _ k h in
+      let o : merge_outcome xs rows w name room count ≡ Err k = merge_stages ∙ then_refused said _ k h in
       record { answer = a ∙ ap number_in (h ∙ sym o); rows_are = y ∙ laid_refused 0 _ k _ _ o; pairs_are = z ∙ laid_refused 0 _ k _ _ o }
 
   -- there is room for the one number
-  pub merge_place : said ≡ Done → 0 < length blank
+  pub merge_place : said ≡ Ok tt → 0 < length blank
   unfolding count_lines
   merge_place h =
-      let c : first (count_lines count) ≡ Done = (both_done _ _ (both_done _ _ (sym e ∙ h)).1).0 in
+      let c : first (count_lines count) ≡ (Ok tt) = (both_done _ _ (both_done _ _ (sym e ∙ h)).1).0 in
       let l : 1 ≤ count = ltb-false count 1 (none (count_lines count) c).0 in
       omega (arith, ap length z, length-replicate {A = ℕ} count 0)
 
-  module _ (h : said ≡ Done) (l : Linkage) (el : l ≡ linkage_meant (linkage_named name)) (a : Joined) (ea : a ≡ children_answer l xs rows w room) (out : List ℕ) (eo : out ≡ children_rows l xs rows w room) where
+  module _ (h : said ≡ Ok tt) (l : Linkage) (el : l ≡ linkage_meant (linkage_named name)) (a : Joined) (ea : a ≡ children_answer l xs rows w room) (out : List ℕ) (eo : out ≡ children_rows l xs rows w room) where
     merge_rest : merge_outcome xs rows w name room count ≡ children_outcome xs rows w room
     merge_rest = merge_stages ∙ then_done said _ h
 
-    pub merge_told : (k : Refusal) → a ≡ joined.Refused k → (r : ℕ) → r ≡ number_in (Refused k) → MergeAnswer xs rows w name room count r out blank
+    pub merge_told : (k : Refusal) → a ≡ Err k → (r : ℕ) → r ≡ number_in (Err k) → MergeAnswer xs rows w name room count r out blank
     unfolding children_rows
     merge_told k g r q =
-        let s : merge_outcome xs rows w name room count ≡ Refused k = merge_rest ∙ children_refuses l xs rows w room k (sym ea ∙ g) in
+        let s : merge_outcome xs rows w name room count ≡ Err k = merge_rest ∙ children_refuses l xs rows w room k (sym ea ∙ g) in
         record {
           answer = q ∙ ap number_in (sym s);
           rows_are = rw (merge_rest, ← el) eo;
           pairs_are = z ∙ laid_refused 0 _ k _ _ s;
         }
 
-    pub merge_made : (k m : ℕ) → a ≡ joined.Made k m → MergeAnswer xs rows w name room count 0 out (set blank 0 m)
+    pub merge_made : (k m : ℕ) → a ≡ Ok (merged k m) → MergeAnswer xs rows w name room count 0 out (set blank 0 m)
     unfolding children_rows over
     merge_made k m g =
         let b = children_made l xs rows w room k m (sym ea ∙ g) in
-        let s : merge_outcome xs rows w name room count ≡ Done = merge_rest ∙ b.0 in
+        let s : merge_outcome xs rows w name room count ≡ (Ok tt) = merge_rest ∙ b.0 in
         let y : set blank 0 m ≡ over (m ∷ []) blank = over_push [] blank 0 m refl (merge_place h) in
         record {
           answer = sym (ap number_in s);
@@ -181,46 +177,48 @@ module _ (xs : List Float) (rows w : ℕ) (name : List ℕ) (room count : ℕ) (
 
 -- ---- the leaf order, and the number of leaves: its buffer is cleared to blank before the call behind
 
-answer_columns : (o : Outcome) (rows w k m : ℕ) → answer_of o rows w ≡ answer.Matrix k m → (o ≡ Done) × (m ≡ w)
+answer_columns : (o : Outcome) (rows w k m : ℕ) → answer_of o rows w ≡ Ok (size k m) → (o ≡ Ok tt) × (m ≡ w)
 unfolding answer_of
-answer_columns Done rows w k m e = (refl, cc)
-answer_columns (Refused r) rows w k m e = absurd (let z : ◌≡◌ {A = ℕ} 0 1 = cc in omega arith)
+answer_columns (Ok _) rows w k m e =
+    let z : ◌≡◌ {A = Size} (size k m) (size rows w) = cc in
+    (refl, ap (λ (x : Size). x.columns) z)
+answer_columns (Err r) rows w k m e = absurd (let z : ◌≡◌ {A = ℕ} 0 1 = cc in omega arith)
 
 -- there is room for the one number
-pub leaf_place : (n room count : ℕ) (said : Outcome) (blank : List ℕ) → said ≡ first (leaf_sizes n room count) → blank ≡ noughts count → said ≡ Done → 0 < length blank
+pub leaf_place : (n room count : ℕ) (said : Outcome) (blank : List ℕ) → said ≡ first (leaf_sizes n room count) → blank ≡ noughts count → said ≡ Ok tt → 0 < length blank
 unfolding leaf_sizes
 leaf_place n room count said blank e z h =
     let l : 1 ≤ count = ltb-false count 1 (none (leaf_sizes n room count) (sym e ∙ h)).1.1.0 in
     omega (arith, ap length z, length-replicate {A = ℕ} count 0)
 
 module _ (rows : List ℕ) (n v room count : ℕ) (said : Outcome) (blank : List ℕ) (e : said ≡ first (leaf_sizes n room count)) (z : blank ≡ noughts count) where
-  pub leaf_refused : (k : Refusal) → said ≡ Refused k → (r : ℕ) → r ≡ number_in said → (order : List ℕ) → order ≡ noughts room → LeafAnswer rows n v room count r order blank
+  pub leaf_refused : (k : Refusal) → said ≡ Err k → (r : ℕ) → r ≡ number_in said → (order : List ℕ) → order ≡ noughts room → LeafAnswer rows n v room count r order blank
   unfolding leaf_outcome
   leaf_refused k h r a order y =
-      let o : leaf_outcome rows n v room count ≡ Refused k = then_refused (first (leaf_sizes n room count)) _ k (sym e ∙ h) in
+      let o : leaf_outcome rows n v room count ≡ Err k = then_refused (first (leaf_sizes n room count)) _ k (sym e ∙ h) in
       record { answer = a ∙ ap number_in (h ∙ sym o); order_is = y ∙ laid_refused 0 _ k _ _ o; leaves_are = z ∙ laid_refused 0 _ k _ _ o }
 
-  module _ (h : said ≡ Done) where
+  module _ (h : said ≡ Ok tt) where
     leaf_rest : leaf_outcome rows n v room count ≡ order_outcome rows n v room
     unfolding leaf_outcome
     leaf_rest = then_done (first (leaf_sizes n room count)) _ (sym e ∙ h)
 
     module _ (a : Answer) (ea : a ≡ order_answer rows n v room) (order : List ℕ) (eo : order ≡ order_laid rows n v room) where
-      pub leaf_told : (k : Refusal) → a ≡ answer.Refused k → (o : Outcome) → o ≡ told_of a → (r : ℕ) → r ≡ number_in o → LeafAnswer rows n v room count r order blank
+      pub leaf_told : (k : Refusal) → a ≡ Err k → (o : Outcome) → o ≡ told_of a → (r : ℕ) → r ≡ number_in o → LeafAnswer rows n v room count r order blank
       unfolding order_answer order_laid
       leaf_told k g o t r q =
-          let s : leaf_outcome rows n v room count ≡ Refused k = leaf_rest ∙ answer_refused _ _ _ k (sym ea ∙ g) in
+          let s : leaf_outcome rows n v room count ≡ Err k = leaf_rest ∙ answer_refused _ _ _ k (sym ea ∙ g) in
           record {
             answer = q ∙ ap number_in (t ∙ ap told_of ea ∙ told_as _ _ _ ∙ sym leaf_rest);
             order_is = rw leaf_rest eo;
             leaves_are = z ∙ laid_refused 0 _ k _ _ s;
           }
 
-      pub leaf_made : (k m : ℕ) → a ≡ answer.Matrix k m → LeafAnswer rows n v room count 0 order (set blank 0 m)
+      pub leaf_made : (k m : ℕ) → a ≡ Ok (size k m) → LeafAnswer rows n v room count 0 order (set blank 0 m)
       unfolding order_answer order_laid over
       leaf_made k m g =
           let b = answer_columns _ _ _ k m (sym ea ∙ g) in
-          let s : leaf_outcome rows n v room count ≡ Done = leaf_rest ∙ b.0 in
+          let s : leaf_outcome rows n v room count ≡ (Ok tt) = leaf_rest ∙ b.0 in
           let w : set blank 0 m ≡ over (m ∷ []) blank = over_push [] blank 0 m refl (leaf_place n room count said blank e z h) in
           record {
             answer = sym (ap number_in s);
@@ -243,8 +241,8 @@ module _ (o : Outcome) (s : List ℕ) (room count : ℕ) (blank : List ℕ) (z :
       place = omega (arith, blank_length count blank z)
 
       go : (x : Outcome) → set blank 0 (bytes_in (listed_as x (length s))) ≡ laid 0 x count (length s ∷ [])
-      go Done = over_push [] blank 0 (length s) refl place ∙ ap (over (length s ∷ [])) z ∙ laid_done 0 Done count (length s ∷ []) refl
-      go (Refused r) = ap (λ (x : List ℕ). set x 0 0) z ∙ nothing_put count h ∙ laid_refused 0 (Refused r) r count (length s ∷ []) refl
+      go (Ok _) = over_push [] blank 0 (length s) refl place ∙ ap (over (length s ∷ [])) z ∙ laid_done 0 (Ok tt) count (length s ∷ []) refl
+      go (Err r) = ap (λ (x : List ℕ). set x 0 0) z ∙ nothing_put count h ∙ laid_refused 0 (Err r) r count (length s ∷ []) refl
 
   number_told : (r : ℕ) → r ≡ (listed_tells l).number → r ≡ number_in o
   number_told r e = e ∙ ap (λ (t : Telling ℕ). t.number) y.told ∙ told_number o (length s)
@@ -278,11 +276,11 @@ module _ (text : List ℕ) (f : Form) (room count : ℕ) where
   unfolding byte_lines
   none_placed t = rw t (last_line _ _ _ _)
 
-  refused_by_lem : ltb count 1 ≡ true → (k : Refusal) × (first (byte_lines (length text) count) ≡ Refused k)
+  refused_by_lem : ltb count 1 ≡ true → (k : Refusal) × (first (byte_lines (length text) count) ≡ Err k)
   unfolding byte_lines first
   refused_by_lem t = rw t (go (ltb 65536 (length text)))
     where
-      go : (b : Bool) → (k : Refusal) × (first ((b, OverLimit) ∷ (true, ShortBuffer) ∷ []) ≡ Refused k)
+      go : (b : Bool) → (k : Refusal) × (first ((b, OverLimit) ∷ (true, ShortBuffer) ∷ []) ≡ Err k)
       go true = (OverLimit, refl)
       go false = (ShortBuffer, refl)
 
@@ -294,7 +292,7 @@ module _ (text : List ℕ) (f : Form) (room count : ℕ) where
         let t : ltb count 1 ≡ true = lt-ltb count 1 (omega (arith, h, n)) in
         let f : first (byte_lines (length text) (length blank)) ≡ said_of = ap (λ (k : ℕ). first (byte_lines (length text) k)) n ∙ none_placed t in
         let k = refused_by_lem t in
-        let o : said_of ≡ Refused k.0 = sym f ∙ ap (λ (m : ℕ). first (byte_lines (length text) m)) n ∙ k.1 in
+        let o : said_of ≡ Err k.0 = sym f ∙ ap (λ (m : ℕ). first (byte_lines (length text) m)) n ∙ k.1 in
         record { answer = a ∙ ap number_in (e ∙ f); out_is = y ∙ laid_refused 0 _ k.0 _ _ o; bytes_are = z ∙ laid_refused 0 _ k.0 _ _ o }
 
     print_made : 1 ≤ length blank → (l : Listed) (out : List ℕ) → ListingMade (job_outcome text f room) s room l out → (k : ℕ) → k ≡ bytes_in l → (r : ℕ) → r ≡ (listed_tells l).number
@@ -341,7 +339,7 @@ module _ (number room count : ℕ) (blank : List ℕ) (z : blank ≡ noughts cou
   unfolding line_outcome count_lines
   line_none h r a line y =
       let t : ltb count 1 ≡ true = lt-ltb count 1 (omega (arith, h, blank_length count blank z)) in
-      let o : line_outcome number room count ≡ Refused ShortBuffer = then_refused _ _ ShortBuffer (table_hit _ ShortBuffer [] t) in
+      let o : line_outcome number room count ≡ Err ShortBuffer = then_refused _ _ ShortBuffer (table_hit _ ShortBuffer [] t) in
       record { answer = a ∙ ap number_in (sym o); line_is = y ∙ laid_refused 0 _ ShortBuffer _ _ o; bytes_are = z ∙ laid_refused 0 _ ShortBuffer _ _ o }
 
   pub line_made : 1 ≤ length blank → (l : Listed) (line : List ℕ) → ListingMade (refusal_outcome number room) (refusal_line number) room l line → (k : ℕ) → k ≡ bytes_in l → (r : ℕ) → r ≡ (listed_tells l).number

@@ -1,8 +1,7 @@
 -- The C interface: what each call of rovignesc.h answers, and what it leaves in each lent buffer, for every input: what the call behind it does, said in numbers. Definitions only.
-use Rattle.std.specs.Prelude.{ℕ, ◌-◌, ◌*◌, ◌≡◌, cond, List, [], ◌∷◌, length, take, Float}
-use Rattle.refusal.specs.Table.{first, and_then}
+use Rattle.std.specs.Prelude.{ℕ, ◌-◌, ◌*◌, ◌≡◌, cond, List, [], ◌∷◌, length, take, Float, Some, None}
+use Rattle.refusal.specs.Table.{first, and_then, Outcome}
 use Rattle.refusal.specs.Telling.{outcome_tells}
-use Rattle.refusal.specs.declared.Outcome.{Outcome}
 use Rattle.lent.specs.Lent.{is_set, laid}
 use Rattle.inputs.specs.Inputs.{matrix_lines}
 use Rattle.stats.specs.Covariance.{covariance_outcome, covariances}
@@ -16,14 +15,13 @@ use Rattle.parity.specs.Parity as parity
 use Rattle.hrp.specs.Hrp as hrp
 use Rattle.hierarchy.specs.Hierarchy as hierarchy
 use Rattle.hcaa.specs.Hcaa as hcaa
-use Rattle.hcaa.specs.declared.Clusters.{Clusters}
-use Rattle.hcaa.specs.declared.Clusters.TheVariants.{All, Count}
 use Rattle.metrics.specs.declared.Metric.TheVariants.{EqualWeighting}
 use Rattle.equal.specs.Equal.{EqualShares}
 use Rattle.listing.specs.Listing.{refusal_line, refusal_outcome}
 use Rattle.job.specs.Job.{job_outcome, listing_of, sheet_of}
 use Rattle.job.specs.declared.Form.TheVariants.{Listing, Sheet}
 use Rattle.foreign.specs.Foreign.{distance_says, linkage_says, linkage_meant, asked_lines, asked_laid, count_lines, merge_sizes, leaf_sizes, byte_lines}
+use Rattle.hcaa.specs.Outcomes.{Clusters}
 
 -- ---- hierarchical risk parity
 
@@ -43,7 +41,7 @@ pub record HrpAnswer (j : hrp.HrpJob) (name : List ℕ) (room : parity.ParityRoo
 
 -- a flag says whether a count is given: without one, all
 unfoldable pub clusters_for : ℕ → ℕ → Clusters
-clusters_for given count = cond (is_set given) (Count count) All
+clusters_for given count = cond (is_set given) (Some count) None
 
 -- "Always 9, 10, 11 first"; then 8, then 7; then as the call behind, whose job has the linkage and the distance of these names
 unfoldable pub named_hcaa_outcome : hcaa.HcaaJob → List ℕ → List ℕ → hierarchy.Room → ℕ → Outcome

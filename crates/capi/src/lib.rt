@@ -8,10 +8,9 @@ ghost use Rattle.lent.specs.Lent.{is_set, shape_of};
 ghost use Rattle.foreign.specs.Foreign.{distance_meant, linkage_meant};
 ghost use Rattle.capi.specs.Capi.{HrpAnswer, clusters_for, HcaaAnswer, CovarianceAnswer, MergeAnswer, LeafAnswer, ListingAnswer, SheetAnswer, LineAnswer};
 
-use hcaa::Clusters;
-use lent::Answer;
-use linkage::{Distance, Joined, Linkage, NamedDistance, NamedLinkage};
-use refusal::{Outcome, Refusal};
+use lent::Size;
+use linkage::{Distance, Linkage, Merged};
+use refusal::Refusal;
 use tree::Node;
 
 // The square root of a double.
@@ -23,22 +22,18 @@ pub extern "C" fn rovignesc_sqrt(x: f64) -> f64
 }
 
 // What it names, once it is known.
+#[tactic(auto, unfolding(foreign::specs::Foreign::distance_meant))]
 fn distance_in(name: &[u8]) -> Distance
     ensures { result ≡ distance_meant (distance_named name.now) }
 {
-    match linkage::distance_named(name) {
-        NamedDistance::Of(d) => d,
-        NamedDistance::Refused(_) => Distance::Correlation,
-    }
+    linkage::distance_named(name).unwrap_or(Distance::Correlation)
 }
 
+#[tactic(auto, unfolding(foreign::specs::Foreign::linkage_meant))]
 fn linkage_in(name: &[u8]) -> Linkage
     ensures { result ≡ linkage_meant (linkage_named name.now) }
 {
-    match linkage::linkage_named(name) {
-        NamedLinkage::Of(l) => l,
-        NamedLinkage::Refused(_) => Linkage::Single,
-    }
+    linkage::linkage_named(name).unwrap_or(Linkage::Single)
 }
 
 // Hierarchical risk parity.
@@ -114,7 +109,7 @@ pub extern "C" fn rovignesc_hrp(
         scratch.len(),
         distance,
     );
-    let Outcome::Done = said else {
+    let Ok(()) = said else {
         rooms::clear_with_matrices(
             rows,
             order,
@@ -146,13 +141,11 @@ pub extern "C" fn rovignesc_hrp(
 }
 
 // Into how many clusters the tree is cut.
-fn clusters_in(given: u8, count: usize) -> Clusters
+#[tactic(auto, using(std::proofs::lemmas::Bool::Decides::nat_tests), unfolding(crate::specs::Capi::clusters_for))]
+fn clusters_in(given: u8, count: usize) -> Option<usize>
     ensures { result ≡ clusters_for given count }
 {
-    if given == 0 {
-        return Clusters::All;
-    }
-    Clusters::Count(count)
+    (given != 0).then_some(count)
 }
 
 // Hierarchical clustering-based asset allocation.
@@ -238,7 +231,7 @@ pub extern "C" fn rovignesc_hcaa(
         linkage,
         distance,
     );
-    let Outcome::Done = said else {
+    let Ok(()) = said else {
         rooms::clear_all(rows, order, weights, scratch);
         return foreign::tell(said, asked);
     };
@@ -305,9 +298,9 @@ pub extern "C" fn rovignesc_linkage_children(
         pairs.len(),
         linkage,
     );
-    lent::clear_numbers(pairs);
-    let Outcome::Done = said else {
-        lent::clear_numbers(rows);
+    lent::clear(pairs);
+    let Ok(()) = said else {
+        lent::clear(rows);
         return foreign::number(said);
     };
     let answer = linkage::linkage_children(
@@ -318,14 +311,11 @@ pub extern "C" fn rovignesc_linkage_children(
         rows,
     );
     match answer {
-        Joined::Made {
-            rows: _,
-            pairs: count,
-        } => {
+        Ok(Merged { pairs: count, .. }) => {
             pairs[0] = count;
             0
         }
-        Joined::Refused(refusal) => foreign::number(Outcome::Refused(refusal)),
+        Err(refusal) => foreign::number(Err(refusal)),
     }
 }
 
@@ -341,17 +331,13 @@ pub extern "C" fn rovignesc_quasi_diagonalization(
     ensures { LeafAnswer rows.now assets node (length order.old) (length leaves.old) result order.new leaves.new }
 {
     let said = foreign::judge_leaves(assets, order.len(), leaves.len());
-    lent::clear_numbers(leaves);
-    let Outcome::Done = said else {
-        lent::clear_numbers(order);
+    lent::clear(leaves);
+    let Ok(()) = said else {
+        lent::clear(order);
         return foreign::number(said);
     };
     let answer = tree::quasi_diagonalization(rows, assets, Node(node), order);
-    let Answer::Matrix {
-        rows: _,
-        columns: count,
-    } = answer
-    else {
+    let Ok(Size { columns: count, .. }) = answer else {
         return foreign::number(lent::told(answer));
     };
     leaves[0] = count;
@@ -363,9 +349,9 @@ pub extern "C" fn rovignesc_quasi_diagonalization(
 pub extern "C" fn rovignesc_listing(text: &[u8], listing: &mut [u8], bytes: &mut [usize]) -> u8
     ensures { ListingAnswer text.now (length listing.old) (length bytes.old) result listing.new bytes.new }
 {
-    lent::clear_numbers(bytes);
+    lent::clear(bytes);
     if bytes.len() < 1 {
-        lent::clear_bytes(listing);
+        lent::clear(listing);
         return foreign::number(foreign::judge_bytes(text.len(), bytes.len()));
     }
     let listed = job::text_to_listing(text, listing);
@@ -383,9 +369,9 @@ pub extern "C" fn rovignesc_sheet(
 ) -> u8
     ensures { SheetAnswer text.now named (length sheet.old) (length bytes.old) result sheet.new bytes.new }
 {
-    lent::clear_numbers(bytes);
+    lent::clear(bytes);
     if bytes.len() < 1 {
-        lent::clear_bytes(sheet);
+        lent::clear(sheet);
         return foreign::number(foreign::judge_bytes(text.len(), bytes.len()));
     }
     let listed = job::text_to_sheet(text, named != 0, sheet);
@@ -398,10 +384,10 @@ pub extern "C" fn rovignesc_sheet(
 pub extern "C" fn rovignesc_refusal_line(number: u8, line: &mut [u8], bytes: &mut [usize]) -> u8
     ensures { LineAnswer number (length line.old) (length bytes.old) result line.new bytes.new }
 {
-    lent::clear_numbers(bytes);
+    lent::clear(bytes);
     if bytes.len() < 1 {
-        lent::clear_bytes(line);
-        return refusal::number(Refusal::ShortBuffer);
+        lent::clear(line);
+        return Refusal::ShortBuffer.number();
     }
     let listed = listing::refusal_line(number, line);
     bytes[0] = listing::bytes(listed);

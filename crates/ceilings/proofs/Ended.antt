@@ -8,11 +8,9 @@ use borrow.Author.Tests.{le-ltb}
 use lib.Ieee.{Float}
 use lib.ListN.{length, take, drop, replicate-append-replicate}
 use lib.Seq.{take_at, drop_at}
-use Rattle.refusal.specs.Table.{first}
+use Rattle.refusal.specs.Table.{first, Outcome}
 use Rattle.refusal.specs.declared.Refusal.{Refusal}
 use Rattle.refusal.specs.declared.Refusal.TheVariants.{OverLimit, ShortBuffer}
-use Rattle.refusal.specs.declared.Outcome.{Outcome}
-use Rattle.refusal.specs.declared.Outcome.TheVariants.{Done, Refused}
 use Rattle.refusal.proofs.Tables.{table_pass, first_refused}
 use Rattle.lent.specs.Grid.{noughts}
 use Rattle.lent.specs.Lent.{laid}
@@ -25,6 +23,7 @@ use Rattle.ceilings.specs.Inner.{size_lines}
 use Rattle.ceilings.proofs.Capped.{length_capped}
 use Rattle.ceilings.proofs.Called.{last_line}
 use Rattle.ceilings.proofs.Weighed.{outcome_none, laid_none, millionths_length, given_in, given_lines, alike, SizesFit, fitting, figures_said}
+use Rattle.std.specs.Prelude.{Ok, Err}
 
 zeros_join : (a b k : ℕ) → a + b ≡ k → noughts a ++ noughts b ≡ noughts k
 zeros_join a b k e = replicate-append-replicate a b 0 ∙ ap noughts e
@@ -32,27 +31,27 @@ zeros_join a b k e = replicate-append-replicate a b 0 ∙ ap noughts e
 -- what is laid in the first n entries, and zeros after it
 laid_longer : (o : Outcome) (n room : ℕ) (cells : List ℕ) → length cells ≤ n → n ≤ room → laid 0 o n cells ++ noughts (room - n) ≡ laid 0 o room cells
 unfolding laid
-laid_longer Done n room cells l h =
+laid_longer (Ok _) n room cells l h =
     append_assoc cells (noughts (n - length cells)) (noughts (room - n)) ∙ ap (λ (x : List ℕ). cells ++ x) (zeros_join (n - length cells) (room - n) (room - length cells) (omega arith))
-laid_longer (Refused r) n room cells l h = zeros_join n (room - n) room (omega arith)
+laid_longer (Err r) n room cells l h = zeros_join n (room - n) room (omega arith)
 
 none_given : (cs : List ℕ) → length cs ≡ 0 → cs ≡ []
 none_given [] e = refl
 none_given (c ∷ cs) e = absurd (omega arith)
 
 module _ (ws : List Float) (cs : List ℕ) (room : ℕ) where
-  pub ends_refused : (said : Outcome) (r : Refusal) (out : List ℕ) → said ≡ figures_outcome ws cs room → said ≡ Refused r → out ≡ noughts room → out ≡ figures_laid ws cs room
+  pub ends_refused : (said : Outcome) (r : Refusal) (out : List ℕ) → said ≡ figures_outcome ws cs room → said ≡ Err r → out ≡ noughts room → out ≡ figures_laid ws cs room
   unfolding figures_laid
   ends_refused said r out e h o = o ∙ laid_refused 0 (figures_outcome ws cs room) r room (figures_in ws cs) (sym e ∙ h)
 
   module _ (sized : Outcome) (s : sized ≡ first (size_lines (length ws) cs room)) where
-    pub sizes_refused : (r : Refusal) → sized ≡ Refused r → sized ≡ figures_outcome ws cs room
+    pub sizes_refused : (r : Refusal) → sized ≡ Err r → sized ≡ figures_outcome ws cs room
     unfolding figures_outcome figures_table are_unlike size_lines
     sizes_refused r e = e ∙ sym (first_refused (size_lines (length ws) cs room) (figures_lines ws cs) r (sym s ∙ e))
 
     -- ---- sizes that are good
 
-    module _ (d : sized ≡ Done) where
+    module _ (d : sized ≡ Ok tt) where
       good : SizesFit ws cs room
       good = fitting ws cs room (sym s ∙ d)
 
@@ -68,7 +67,7 @@ module _ (ws : List Float) (cs : List ℕ) (room : ℕ) where
 
       module _ (parted : Outcome) (mid : List ℕ) (p : parted ≡ millionths_outcome ws room) (m : mid ≡ millionths_laid ws room) where
         -- request 3's part refuses
-        module _ (r : Refusal) (e : parted ≡ Refused r) where
+        module _ (r : Refusal) (e : parted ≡ Err r) where
           pub part_said : parted ≡ figures_outcome ws cs room
           unfolding figures_lines
           part_said = e ∙ sym (said_lines ∙ first_refused (millionths_lines ws) _ r (sym part_lines ∙ sym p ∙ e))
@@ -78,7 +77,7 @@ module _ (ws : List Float) (cs : List ℕ) (room : ℕ) where
           part_laid = ends_refused parted r mid part_said e (m ∙ sym (laid_refused 0 (millionths_outcome ws room) r room (millionths_in ws) (sym p ∙ e)))
 
         -- the ceilings' part
-        module _ (e : parted ≡ Done) (g : length cs ≡ 0 → ⊥) where
+        module _ (e : parted ≡ Ok tt) (g : length cs ≡ 0 → ⊥) where
           whole : mid ≡ millionths_in ws ++ noughts (room - length (millionths_in ws))
           unfolding millionths_laid laid
           whole = m ∙ ap (λ (o : Outcome). laid 0 o room (millionths_in ws)) (sym p ∙ e)
@@ -91,7 +90,7 @@ module _ (ws : List Float) (cs : List ℕ) (room : ℕ) where
 
           both_say : capped_outcome (millionths_in ws) cs ≡ figures_outcome ws cs room
           both_say =
-              let t : first (millionths_lines ws) ≡ Done = sym part_lines ∙ sym p ∙ e in
+              let t : first (millionths_lines ws) ≡ (Ok tt) = sym part_lines ∙ sym p ∙ e in
               last_line (millionths_in ws) cs (le_trans (le_of_eq (millionths_length ws)) good.few) (millionths_length ws ∙ sym (alike cs (length ws) good.like (pos_of_ne-zero g))) (adds_up ws t).total
               ∙ sym (said_lines ∙ given_lines ws cs (pos_of_ne-zero g) t)
 

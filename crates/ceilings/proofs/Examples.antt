@@ -11,8 +11,6 @@ use Rattle.refusal.specs.Table.{first}
 use Rattle.refusal.specs.Telling.{outcome_tells}
 use Rattle.fields.specs.Split.{all}
 use Rattle.fields.specs.Numerals.{digit, number, is_numeral}
-use Rattle.fields.specs.declared.Numeral.{Numeral}
-use Rattle.fields.specs.declared.Numeral.TheVariants.{Malformed, Of}
 use Rattle.lent.specs.Count.{upto, over_all}
 use Rattle.lent.specs.Grid.{tab}
 use Rattle.lent.specs.Lent.{laid}
@@ -21,6 +19,8 @@ use Rattle.millionths.specs.Millionths.{whole_total, missing, millionths_at, mil
 use Rattle.ceilings.specs.Ceilings.{kept_at, gap_at, cut_total, left_for, capped_at, capped_in, too_low, capped_table, capped_outcome, capped_laid}
 use Rattle.ceilings.specs.Figures.{figures_in, figures_lines, are_unlike, figures_table, figures_outcome, figures_laid}
 use Rattle.ceilings.specs.Written.{ceiling_of, is_ceiling, ceiling_read, ceiling_outcome}
+use Rattle.std.specs.Prelude.{Some, None}
+use Rattle.fields.specs.Outcomes.{Numeral}
 
 abbrev same : List ℕ → List ℕ → Bool
 same [] [] = true
@@ -40,15 +40,15 @@ leave bs cs room k out =
 
 -- these bytes are read as this ceiling, or are none (15)
 abbrev is_of : Numeral → ℕ → Bool
-is_of (Of n) k = eqb n k
-is_of Malformed k = false
+is_of (Some n) k = eqb n k
+is_of None k = false
 
 abbrev reads : List ℕ → ℕ → Bool
 reads w k = is_of (ceiling_read w) k && eqb (outcome_tells (ceiling_outcome w)).number 0
 
 abbrev is_none : Numeral → Bool
-is_none (Of n) = false
-is_none Malformed = true
+is_none (Some n) = false
+is_none None = true
 
 abbrev refused : List ℕ → Bool
 refused w = is_none (ceiling_read w) && eqb (outcome_tells (ceiling_outcome w)).number 15

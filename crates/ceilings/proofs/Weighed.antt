@@ -10,10 +10,8 @@ use borrow.Author.Tests.{ltb-true, ltb-false, lt-ltb, le-ltb, eqb-true, not-fals
 use lib.Dec.{ltb, eqb}
 use lib.Ieee.{Float}
 use lib.ListN.{length, get_or, get_or-eq_default}
-use Rattle.refusal.specs.Table.{Line, first, or_else}
+use Rattle.refusal.specs.Table.{Line, first, or_else, Outcome}
 use Rattle.refusal.specs.declared.Refusal.TheVariants.{DimensionMismatch, OverLimit, ShortBuffer, CeilingsTooLow}
-use Rattle.refusal.specs.declared.Outcome.{Outcome}
-use Rattle.refusal.specs.declared.Outcome.TheVariants.{Done, Refused}
 use Rattle.refusal.proofs.Tables.{table, table_end, table_pass, none, first_done, first_refused, parts_done}
 use Rattle.lent.specs.Grid.{noughts}
 use Rattle.lent.specs.Lent.{laid}
@@ -27,6 +25,7 @@ use Rattle.ceilings.specs.Figures.{are_given, figures_in, figures_lines, are_unl
 use Rattle.ceilings.specs.Inner.{size_lines}
 use Rattle.ceilings.proofs.Capped.{length_capped, capped, capped_alone}
 use Rattle.ceilings.proofs.Called.{entry_most, given_exactly}
+use Rattle.std.specs.Prelude.{Ok, Err}
 
 -- ---- with no ceilings, all is as it was
 
@@ -40,8 +39,8 @@ module _ (ws : List Float) where
   lines_none = go (first (millionths_lines ws)) refl
     where
       go : (o : Outcome) → first (millionths_lines ws) ≡ o → first (figures_lines ws []) ≡ o
-      go Done d = first_done (millionths_lines ws) _ d ∙ table_pass _ CeilingsTooLow [] refl ∙ table_end
-      go (Refused r) e = first_refused (millionths_lines ws) _ r e
+      go (Ok _) d = first_done (millionths_lines ws) _ d ∙ table_pass _ CeilingsTooLow [] refl ∙ table_end
+      go (Err r) e = first_refused (millionths_lines ws) _ r e
 
   pub outcome_none : (room : ℕ) → figures_outcome ws [] room ≡ millionths_outcome ws room
   unfolding figures_outcome figures_table are_unlike millionths_outcome millionths_table
@@ -62,7 +61,7 @@ module _ (ws : List Float) where
 -- ---- with ceilings, they are cut and filled
 
 module _ (ws : List Float) (cs : List ℕ) where
-  pub figures_lines_done : first (figures_lines ws cs) ≡ Done → first (millionths_lines ws) ≡ Done
+  pub figures_lines_done : first (figures_lines ws cs) ≡ Ok tt → first (millionths_lines ws) ≡ Ok tt
   unfolding figures_lines
   figures_lines_done d = (parts_done (millionths_lines ws) _ d).0
 
@@ -71,29 +70,29 @@ module _ (ws : List Float) (cs : List ℕ) where
     unfolding figures_in
     given_in = ap (λ (t : Bool). cond t (capped_in (millionths_in ws) cs) (millionths_in ws)) (lt-ltb 0 (length cs) g)
 
-    pub given_lines : first (millionths_lines ws) ≡ Done → first (figures_lines ws cs) ≡ or_else (too_low cs) CeilingsTooLow Done
+    pub given_lines : first (millionths_lines ws) ≡ Ok tt → first (figures_lines ws cs) ≡ or_else (too_low cs) CeilingsTooLow (Ok tt)
     unfolding figures_lines
     given_lines d =
         first_done (millionths_lines ws) _ d ∙ table (are_given cs && too_low cs) CeilingsTooLow []
         ∙ ap (λ (t : Bool). or_else (t && too_low cs) CeilingsTooLow (first [])) (lt-ltb 0 (length cs) g) ∙ ap (or_else (too_low cs) CeilingsTooLow) table_end
 
-    pub enough : first (figures_lines ws cs) ≡ Done → too_low cs ≡ false
+    pub enough : first (figures_lines ws cs) ≡ Ok tt → too_low cs ≡ false
     unfolding figures_lines
     enough d = ap (λ (t : Bool). t && too_low cs) (sym (lt-ltb 0 (length cs) g)) ∙ (none ((are_given cs && too_low cs, CeilingsTooLow) ∷ []) (parts_done (millionths_lines ws) _ d).1).0
 
   -- request 10, of weights that neither 13 nor 18 nor 20 refuses
-  pub figures_capped : length cs ≡ length ws → 0 < length cs → first (figures_lines ws cs) ≡ Done → Capped (millionths_in ws) cs (figures_in ws cs)
+  pub figures_capped : length cs ≡ length ws → 0 < length cs → first (figures_lines ws cs) ≡ Ok tt → Capped (millionths_in ws) cs (figures_in ws cs)
   figures_capped e g d =
       subst (Capped (millionths_in ws) cs) (sym (given_in g))
       (capped (millionths_in ws) cs (millionths_length ws ∙ sym e) (adds_up ws (figures_lines_done d)).total (enough g d))
 
   -- no second list fits
-  pub figures_alone : length cs ≡ length ws → 0 < length cs → first (figures_lines ws cs) ≡ Done → (l : List ℕ) → Capped (millionths_in ws) cs l → l ≡ figures_in ws cs
+  pub figures_alone : length cs ≡ length ws → 0 < length cs → first (figures_lines ws cs) ≡ Ok tt → (l : List ℕ) → Capped (millionths_in ws) cs l → l ≡ figures_in ws cs
   figures_alone e g d l s = capped_alone (millionths_in ws) cs (millionths_length ws ∙ sym e) (adds_up ws (figures_lines_done d)).total l s ∙ sym (given_in g)
 
   -- 20, exactly: where request 3's part refuses nothing
-  pub figures_twenty : 0 < length cs → first (millionths_lines ws) ≡ Done
-      → (first (figures_lines ws cs) ≡ Refused CeilingsTooLow → (l : List ℕ) → Under cs l → ⊥) × (((l : List ℕ) → Under cs l → ⊥) → first (figures_lines ws cs) ≡ Refused CeilingsTooLow)
+  pub figures_twenty : 0 < length cs → first (millionths_lines ws) ≡ Ok tt
+      → (first (figures_lines ws cs) ≡ Err CeilingsTooLow → (l : List ℕ) → Under cs l → ⊥) × (((l : List ℕ) → Under cs l → ⊥) → first (figures_lines ws cs) ≡ Err CeilingsTooLow)
   figures_twenty g d = given_exactly cs (first (figures_lines ws cs)) (given_lines g d)
 
 -- ---- with or without
@@ -107,11 +106,11 @@ pub figures_length : (ws : List Float) (cs : List ℕ) → length (figures_in ws
 figures_length ws [] = ap length (figures_none ws) ∙ millionths_length ws
 figures_length ws (c ∷ cs) = ap length (given_in ws (c ∷ cs) (omega arith)) ∙ length_capped (millionths_in ws) (c ∷ cs) ∙ millionths_length ws
 
-pub figures_total : (ws : List Float) (cs : List ℕ) → are_unlike cs (length ws) ≡ false → first (figures_lines ws cs) ≡ Done → total_of (figures_in ws cs) ≡ 1000000
+pub figures_total : (ws : List Float) (cs : List ℕ) → are_unlike cs (length ws) ≡ false → first (figures_lines ws cs) ≡ Ok tt → total_of (figures_in ws cs) ≡ 1000000
 figures_total ws [] u d = ap total_of (figures_none ws) ∙ (adds_up ws (figures_lines_done ws [] d)).total
 figures_total ws (c ∷ cs) u d = (figures_capped ws (c ∷ cs) (alike (c ∷ cs) (length ws) u (omega arith)) (omega arith) d).under.total
 
-pub figures_small : (ws : List Float) (cs : List ℕ) → are_unlike cs (length ws) ≡ false → first (figures_lines ws cs) ≡ Done → (i : ℕ) → get_or (figures_in ws cs) i 0 ≤ 1000000
+pub figures_small : (ws : List Float) (cs : List ℕ) → are_unlike cs (length ws) ≡ false → first (figures_lines ws cs) ≡ Ok tt → (i : ℕ) → get_or (figures_in ws cs) i 0 ≤ 1000000
 figures_small ws cs u d i =
     ⊎_elim
     (λ h. le_trans (entry_most (figures_in ws cs) i (ltb-true i _ h)) (le_of_eq (figures_total ws cs u d)))
@@ -127,7 +126,7 @@ pub record SizesFit (ws : List Float) (cs : List ℕ) (room : ℕ) : Type 0 wher
   pub like : are_unlike cs (length ws) ≡ false
 
 module _ (ws : List Float) (cs : List ℕ) (room : ℕ) where
-  pub fitting : first (size_lines (length ws) cs room) ≡ Done → SizesFit ws cs room
+  pub fitting : first (size_lines (length ws) cs room) ≡ Ok tt → SizesFit ws cs room
   unfolding size_lines are_unlike
   fitting d =
       let a = none (size_lines (length ws) cs room) d in
@@ -139,10 +138,10 @@ module _ (ws : List Float) (cs : List ℕ) (room : ℕ) where
   figures_said f = table_pass _ OverLimit _ (le-ltb 64 (length ws) f.few) ∙ table_pass _ ShortBuffer _ (le-ltb room (length ws) f.roomy) ∙ table_pass _ DimensionMismatch _ f.like
 
   -- what an accepted one has, and what it leaves
-  pub figures_done : figures_outcome ws cs room ≡ Done → SizesFit ws cs room × (first (figures_lines ws cs) ≡ Done)
+  pub figures_done : figures_outcome ws cs room ≡ Ok tt → SizesFit ws cs room × (first (figures_lines ws cs) ≡ Ok tt)
   unfolding figures_outcome figures_table are_unlike size_lines
   figures_done d = let p = parts_done (size_lines (length ws) cs room) (figures_lines ws cs) d in (fitting p.0, p.1)
 
-  pub figures_laid_lem : figures_outcome ws cs room ≡ Done → figures_laid ws cs room ≡ figures_in ws cs ++ noughts (room - length ws)
+  pub figures_laid_lem : figures_outcome ws cs room ≡ Ok tt → figures_laid ws cs room ≡ figures_in ws cs ++ noughts (room - length ws)
   unfolding figures_laid laid
   figures_laid_lem d = ap (λ (o : Outcome). laid 0 o room (figures_in ws cs)) d ∙ ap (λ (k : ℕ). figures_in ws cs ++ noughts (room - k)) (figures_length ws cs)

@@ -1,9 +1,8 @@
 -- Document 02, request 10, "Ceilings for single holdings": "After request 3's rounding, cut every asset to its ceiling, then hand the cut total out in asset order,
 -- each one filled up to its ceiling." Definitions only.
 use Rattle.std.specs.Prelude.{ℕ, zero, suc, ◌+◌, ◌-◌, min, Bool, not, List, [], ◌∷◌, ltb, eqb, length, get_or}
-use Rattle.refusal.specs.Table.{Line, first}
+use Rattle.refusal.specs.Table.{Line, first, Outcome}
 use Rattle.refusal.specs.declared.Refusal.TheVariants.{DimensionMismatch, OverLimit, TotalOutOfReach, CeilingsTooLow}
-use Rattle.refusal.specs.declared.Outcome.{Outcome}
 use Rattle.lent.specs.Count.{upto}
 use Rattle.lent.specs.Grid.{tab}
 use Rattle.lent.specs.Lent.{most_assets, laid}

@@ -1,8 +1,7 @@
 -- Document 02, requests 3 and 10: weights in millionths, under ceilings where these are given. Definitions only.
 use Rattle.std.specs.Prelude.{ℕ, Bool, not, cond, ◌&&◌, List, [], ◌∷◌, ◌++◌, ltb, eqb, length, Float}
-use Rattle.refusal.specs.Table.{Line, first}
+use Rattle.refusal.specs.Table.{Line, first, Outcome}
 use Rattle.refusal.specs.declared.Refusal.TheVariants.{DimensionMismatch, OverLimit, ShortBuffer, CeilingsTooLow}
-use Rattle.refusal.specs.declared.Outcome.{Outcome}
 use Rattle.lent.specs.Lent.{most_assets, laid}
 use Rattle.millionths.specs.Millionths.{millionths_in, millionths_lines}
 use Rattle.ceilings.specs.Ceilings.{capped_in, too_low}

@@ -1,11 +1,9 @@
 -- Document 02, request 10: a ceiling in a text. Definitions only.
-use Rattle.std.specs.Prelude.{ℕ, Bool, not, cond, ◌&&◌, List, [], ◌∷◌, leb, length}
-use Rattle.refusal.specs.Table.{first}
+use Rattle.std.specs.Prelude.{ℕ, Bool, not, cond, ◌&&◌, List, [], ◌∷◌, leb, length, Some, None}
+use Rattle.refusal.specs.Table.{first, Outcome}
 use Rattle.refusal.specs.declared.Refusal.TheVariants.{MalformedText}
-use Rattle.refusal.specs.declared.Outcome.{Outcome}
 use Rattle.fields.specs.Numerals.{is_numeral, number}
-use Rattle.fields.specs.declared.Numeral.{Numeral}
-use Rattle.fields.specs.declared.Numeral.TheVariants.{Malformed, Of}
+use Rattle.fields.specs.Outcomes.{Numeral}
 
 -- the number that its digits spell, whatever zeros it begins with
 unfoldable pub ceiling_of : List ℕ → ℕ
@@ -19,7 +17,7 @@ is_ceiling w = is_numeral w && (leb (length w) 7 && leb (ceiling_of w) 1000000)
 
 unfoldable pub ceiling_read : List ℕ → Numeral
 unfolding is_ceiling ceiling_of
-ceiling_read w = cond (is_ceiling w) (Of (ceiling_of w)) Malformed
+ceiling_read w = cond (is_ceiling w) (Some (ceiling_of w)) None
 
 unfoldable pub ceiling_outcome : List ℕ → Outcome
 unfolding is_ceiling

@@ -2,45 +2,29 @@
 // oracle/decimals.py makes the lines that it is run on, and the answers.
 #![tactic(auto)]
 
-use channel::Input;
-use fields::Cell;
+use recorded::Told;
 use refusal::Refusal;
 
-// One cell's line. Answers the place after it.
-fn tell(cell: Cell, told: &mut [u8], end: usize) -> usize {
+// One cell's line.
+fn tell(cell: Option<f64>, told: &mut Told) {
     match cell {
-        Cell::Malformed => {
-            let number = refusal::number(Refusal::MalformedText);
-            recorded::put_hex(told, end, number as u64, 1, 10)
-        }
-        Cell::Of(x) => {
-            let begun = recorded::put_hex(told, end, 0, 1, 32);
-            recorded::put_hex(told, begun, arithmetic::to_bits(x), 16, 10)
+        None => told.put(Refusal::MalformedText.number(), b'\n'),
+        Some(x) => {
+            told.put(0usize, b' ');
+            told.put(x, b'\n');
         }
     }
 }
 
-// Every line. Answers how many bytes were told.
-fn answers(text: &[u8], told: &mut [u8]) -> usize {
-    let mut at = 0;
-    let mut end = 0;
-    loop {
-        let e = fields::end_of(text, 10, at);
-        if e == text.len() {
-            return end;
+// Every line that a newline ends.
+fn answers(text: &[u8], told: &mut Told) {
+    for line in text.split_inclusive(|byte| *byte == b'\n') {
+        if let Some((b'\n', cell)) = line.split_last() {
+            tell(decimals::read_cell(cell), told);
         }
-        end = tell(decimals::read_cell(&text[at..e]), told, end);
-        at = e + 1;
     }
 }
 
 fn main(rt: HostRuntime) {
-    let mut text = recorded::space();
-    let input = channel::read_all(rt, &mut text);
-    let Input::Text(n) = input else {
-        return;
-    };
-    let mut told = recorded::space();
-    let end = answers(recorded::byte_part(&text, 0, n), &mut told);
-    channel::write(rt, recorded::byte_part(&told, 0, end));
+    recorded::answer(rt, answers);
 }

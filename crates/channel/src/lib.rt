@@ -7,13 +7,6 @@ ghost use Rattle.channel.specs.Channel.{IsRead, IsWhole};
 
 use std::io::{Read, Write};
 
-// How many bytes were read, or that a text cannot be had whole, which standard error was told.
-#[derive(Clone, Copy)]
-pub enum Input {
-    Text(usize),
-    Failed,
-}
-
 // A line for standard error. Answers whether all was taken; nothing to write always is. Where it was not, nobody else is told.
 pub fn warn(rt: HostRuntime, line: &[u8]) -> bool
     ensures { length line.now ≡ 0 → result ≡ true }
@@ -25,55 +18,49 @@ pub fn warn(rt: HostRuntime, line: &[u8]) -> bool
 }
 
 // One read of standard input: the bytes that came, none at its end. A buffer of no bytes reads none.
-pub fn read_piece(rt: HostRuntime, piece: &mut [u8]) -> Input
+pub fn read_piece(rt: HostRuntime, piece: &mut [u8]) -> Option<usize>
     ensures { IsRead result piece.new }
 {
     match rt.stdin().read(piece) {
-        Ok(n) => Input::Text(n),
+        Ok(n) => Some(n),
         Err(_) => {
             warn(
                 rt,
                 b"standard input could not be read to its end: nothing is printed\n",
             );
-            Input::Failed
+            None
         }
     }
 }
 
 // Reads standard input until it ends or the buffer is full.
-pub fn read(rt: HostRuntime, text: &mut [u8]) -> Input
+pub fn read(rt: HostRuntime, text: &mut [u8]) -> Option<usize>
     ensures { IsRead result text.new }
 {
     let mut done = 0;
     while done < text.len() {
-        let came = read_piece(rt, &mut text[done..]);
-        let Input::Text(more) = came else {
-            return Input::Failed;
-        };
+        let more = read_piece(rt, &mut text[done..])?;
         if more == 0 {
-            return Input::Text(done);
+            return Some(done);
         }
         done += more;
     }
-    Input::Text(done)
+    Some(done)
 }
 
 // The same, for a text whose end has to be seen: one that fills the buffer may go on.
-pub fn read_all(rt: HostRuntime, text: &mut [u8]) -> Input
+pub fn read_all(rt: HostRuntime, text: &mut [u8]) -> Option<usize>
     ensures { IsWhole result text.new }
 {
-    let input = read(rt, text);
-    let Input::Text(n) = input else {
-        return Input::Failed;
-    };
+    let n = read(rt, text)?;
     if n < text.len() {
-        return Input::Text(n);
+        return Some(n);
     }
     warn(
         rt,
         b"standard input is longer than the program takes: nothing is printed\n",
     );
-    Input::Failed
+    None
 }
 
 // Writes to standard output. Answers whether all was taken; nothing to write always is.

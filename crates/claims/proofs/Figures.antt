@@ -11,14 +11,11 @@ use Rattle.arithmetic.specs.Constants.{pz}
 use Rattle.arithmetic.specs.Arithmetic.{min_of, max_of, abs_of, clamp_of, finite_of, count_of, one_over}
 use Rattle.arithmetic.specs.Root.{isqrt, root}
 use Rattle.refusal.specs.Refusal.{number_of, values_of}
-use Rattle.refusal.specs.Table.{first, and_then}
-use Rattle.refusal.specs.declared.Outcome.{Outcome}
-use Rattle.refusal.specs.declared.Outcome.TheVariants as outcome
+use Rattle.refusal.specs.Table.{first, and_then, Outcome}
 use Rattle.lent.specs.Count.{count, upto, over_all}
 use Rattle.lent.specs.Grid.{tab, grid, sum_to, sum_on, sum_rows, any_to}
 use Rattle.lent.specs.Range.{span, range}
-use Rattle.lent.specs.Lent.{shape_of, over_limit, other_length, too_big, misfits, sizes, laid}
-use Rattle.lent.specs.declared.Shape.TheVariants.{Absent, Of}
+use Rattle.lent.specs.Lent.{shape_of, over_limit, other_length, too_big, misfits, sizes, laid, size as sized}
 use Rattle.text.specs.Bytes.{bytes, same, lower, lowered, is_word}
 use Rattle.fields.specs.Split.{onto, split, all as every}
 use Rattle.fields.specs.Numerals.{digit, number, is_bits, numeral_read, is_numeral}
@@ -44,8 +41,6 @@ use Rattle.linkage.specs.declared.Linkage.TheVariants.{Single, Complete, Average
 use Rattle.names.specs.Names.{is_name}
 use Rattle.heading.specs.Heading as heading
 use Rattle.reading.specs.Reading as reading
-use Rattle.reading.specs.declared.Reading.{Reading}
-use Rattle.reading.specs.declared.Reading.TheVariants as read
 use Rattle.clusters.specs.Clusters.{recip, recip_sum, shares, term, variance_of, outside, any_listed_low as any_low_of, risk_table, size_table, shares_outcome, variance_outcome, variance_answer}
 use Rattle.clusters.specs.Shares.{is_none, weights_in}
 use Rattle.ordering.specs.Order as ordered
@@ -68,8 +63,10 @@ use Rattle.branches.specs.Branch as branch
 use Rattle.groups.specs.Groups as groups
 use Rattle.job.specs.Job as job
 use Rattle.job.specs.declared.Form.TheVariants as form
-use Rattle.hcaa.specs.declared.Clusters.{Clusters}
-use Rattle.hcaa.specs.declared.Clusters.TheVariants.{All, Count}
+use Rattle.std.specs.Prelude.{Some, Ok, None, Err}
+use Rattle.hcaa.specs.Outcomes.{Clusters}
+use Rattle.reading.specs.Outcomes.{Reading}
+use Rattle.reading.specs.declared.Job.TheVariants as jobs
 
 -- ---- bits, and answers in them
 
@@ -118,8 +115,8 @@ bits xs = map (to_bits binary64) xs
 
 -- 0, or the refusal's number and values
 abbrev told : Outcome → List ℕ
-told outcome.Done = 0 ∷ []
-told (outcome.Refused r) = number_of r ∷ values_of r
+told (Ok _) = 0 ∷ []
+told (Err r) = number_of r ∷ values_of r
 
 -- 2 assets, 0 off the diagonal
 abbrev diagonal : ℕ → ℕ → List Float
@@ -171,11 +168,11 @@ abbrev given : ℕ → List Float → List ℕ → Clusters → Distance → Lin
 given n cov metric k d l = record {
   assets = n;
   prices = [];
-  prices_shape = Absent;
+  prices_shape = None;
   returns = [];
-  returns_shape = Absent;
+  returns_shape = None;
   covariance = cov;
-  covariance_shape = Of n n;
+  covariance_shape = Some (sized n n);
   expected = [];
   expected_given = false;
   metric = metric;
@@ -197,7 +194,7 @@ abbrev shared : hcaa.HcaaJob → ℕ → List ℕ
 shared j n = buffers (hcaa.hcaa_outcome j (record { rows = 2 * (n - 1); order = n; weights = n; scratch = 8192 })) j n
 
 abbrev pair : ℕ → ℕ → ℕ → List ℕ
-pair a b k = shared (given 2 (diagonal a b) (bytes "equal_weighting") (Count k) Correlation Single) 2
+pair a b k = shared (given 2 (diagonal a b) (bytes "equal_weighting") (Some k) Correlation Single) 2
 
 -- "this input", with its clusters
 abbrev text : List ℕ → List ℕ
@@ -209,9 +206,9 @@ text clusters =
 
 -- the call that a text asks for, by what is read in it
 abbrev called : Reading → List ℕ → List ℕ
-called (read.Refused r) t = number_of r ∷ []
-called (read.Hrp b d) t = []
-called (read.Hcaa b l d) t = shared (job.hcaa_job_in t l d) b.assets
+called (Err r) t = number_of r ∷ []
+called (Ok (jobs.Hrp b d)) t = []
+called (Ok (jobs.Hcaa b l d)) t = shared (job.hcaa_job_in t l d) b.assets
 
 abbrev asks : List ℕ → List ℕ
 asks clusters = called (reading.read_of (text clusters) job.room_of_reader) (text clusters)
@@ -239,11 +236,11 @@ abbrev risky : List ℕ → ℕ → List ℕ → ℕ → Clusters → hcaa.HcaaJ
 risky metric h cells q k = record {
   assets = 2;
   prices = [];
-  prices_shape = Absent;
+  prices_shape = None;
   returns = doubles cells;
-  returns_shape = Of h 2;
+  returns_shape = Some (sized h 2);
   covariance = diagonal one one;
-  covariance_shape = Of 2 2;
+  covariance_shape = Some (sized 2 2);
   expected = [];
   expected_given = false;
   metric = metric;
@@ -261,16 +258,16 @@ tailed metric h cells q k = shared (risky metric h cells q k) 2
 abbrev tails : List Bool
 tails =
     -- returns (−3, −1), (1, −1) and confidence 0.5: the index is a half, and goes to the even entry, so that the shortfalls are 3 and 1
-    same (tailed (bytes "expected_shortfall") 2 (minus3 ∷ minus1 ∷ one ∷ minus1 ∷ []) half All) (0 ∷ quarter ∷ most ∷ 250000 ∷ 750000 ∷ 0 ∷ 1 ∷ [])
+    same (tailed (bytes "expected_shortfall") 2 (minus3 ∷ minus1 ∷ one ∷ minus1 ∷ []) half None) (0 ∷ quarter ∷ most ∷ 250000 ∷ 750000 ∷ 0 ∷ 1 ∷ [])
     -- a wealth of 1, −2, −2 and one of 1, 0, 0: the drawdowns, the start counted, are 0, 3, 3 and 0, 1, 1
-    ∷ same (tailed (bytes "conditional_drawdown_risk") 2 (minus3 ∷ minus1 ∷ p0 ∷ p0 ∷ []) half All) (0 ∷ quarter ∷ most ∷ 250000 ∷ 750000 ∷ 0 ∷ 1 ∷ [])
+    ∷ same (tailed (bytes "conditional_drawdown_risk") 2 (minus3 ∷ minus1 ∷ p0 ∷ p0 ∷ []) half None) (0 ∷ quarter ∷ most ∷ 250000 ∷ 750000 ∷ 0 ∷ 1 ∷ [])
     -- "16, no return rows", before 17; 17 for a NaN and for a confidence above 1, before 6; then 6
-    ∷ same (tailed (bytes "expected_shortfall") 0 [] no (Count 0)) (16 ∷ p0 ∷ p0 ∷ 0 ∷ 0 ∷ 0 ∷ 0 ∷ [])
-    ∷ same (tailed (bytes "expected_shortfall") 1 (one ∷ one ∷ []) no (Count 0)) (17 ∷ p0 ∷ p0 ∷ 0 ∷ 0 ∷ 0 ∷ 0 ∷ [])
-    ∷ same (tailed (bytes "conditional_drawdown_risk") 1 (one ∷ one ∷ []) two (Count 0)) (17 ∷ p0 ∷ p0 ∷ 0 ∷ 0 ∷ 0 ∷ 0 ∷ [])
-    ∷ same (tailed (bytes "conditional_drawdown_risk") 1 (one ∷ one ∷ []) one (Count 0)) (6 ∷ 0 ∷ 2 ∷ p0 ∷ p0 ∷ 0 ∷ 0 ∷ 0 ∷ 0 ∷ [])
+    ∷ same (tailed (bytes "expected_shortfall") 0 [] no (Some 0)) (16 ∷ p0 ∷ p0 ∷ 0 ∷ 0 ∷ 0 ∷ 0 ∷ [])
+    ∷ same (tailed (bytes "expected_shortfall") 1 (one ∷ one ∷ []) no (Some 0)) (17 ∷ p0 ∷ p0 ∷ 0 ∷ 0 ∷ 0 ∷ 0 ∷ [])
+    ∷ same (tailed (bytes "conditional_drawdown_risk") 1 (one ∷ one ∷ []) two (Some 0)) (17 ∷ p0 ∷ p0 ∷ 0 ∷ 0 ∷ 0 ∷ 0 ∷ [])
+    ∷ same (tailed (bytes "conditional_drawdown_risk") 1 (one ∷ one ∷ []) one (Some 0)) (6 ∷ 0 ∷ 2 ∷ p0 ∷ p0 ∷ 0 ∷ 0 ∷ 0 ∷ 0 ∷ [])
     -- another metric reads neither
-    ∷ same (tailed (bytes "equal_weighting") 0 [] no All) (0 ∷ half ∷ half ∷ 500000 ∷ 500000 ∷ 0 ∷ 1 ∷ [])
+    ∷ same (tailed (bytes "equal_weighting") 0 [] no None) (0 ∷ half ∷ half ∷ 500000 ∷ 500000 ∷ 0 ∷ 1 ∷ [])
     ∷ []
 
 -- ---- HRP
@@ -280,11 +277,11 @@ abbrev halving : Distance → ℕ → List Float → hrp.HrpJob
 halving d n cov = record {
   assets = n;
   prices = [];
-  prices_shape = Absent;
+  prices_shape = None;
   returns = [];
-  returns_shape = Absent;
+  returns_shape = None;
   covariance = cov;
-  covariance_shape = Of n n;
+  covariance_shape = Some (sized n n);
   resample_by = [];
   use_shrinkage = false;
   distance = d;

@@ -8,10 +8,8 @@ use native.Mathlib.Omega.{arith}
 use lib.Dec.{ltb}
 use lib.ListN.{length, get_or}
 use lib.Ieee.{Float}
-use Rattle.refusal.specs.Table.{first}
+use Rattle.refusal.specs.Table.{first, Outcome}
 use Rattle.refusal.specs.declared.Refusal.TheVariants.{OverLimit, ShortBuffer, MalformedText}
-use Rattle.refusal.specs.declared.Outcome.{Outcome}
-use Rattle.refusal.specs.declared.Outcome.TheVariants.{Done, Refused}
 use Rattle.refusal.proofs.Tables.{both_done, parts_done}
 use Rattle.lent.specs.Grid.{tab}
 use Rattle.lent.proofs.Laws.{length_tab}
@@ -25,7 +23,6 @@ use Rattle.reading.specs.Reading.{rows_in, assets, is_job, job_in, name_of, ceil
 use Rattle.reading.proofs.Table.{within, done_job, done_within}
 use Rattle.reading.proofs.Accepted.{name_good, ceilings_like}
 use Rattle.listing.specs.Listing.{ceiling_at, holding_at}
-use Rattle.listing.specs.declared.Ceiling.TheVariants.{Absent, At}
 use Rattle.job.specs.declared.Form.TheVariants as form
 use Rattle.job.specs.Job.{job_weights, job_order, text_table, job_outcome, listing_of, least_for}
 use Rattle.job.proofs.Built.{Built, built}
@@ -37,17 +34,18 @@ use Rattle.claims.proofs.Slips.{Limited}
 use Rattle.claims.proofs.Taken.{listed_lines, listing_lines, tab_all, HasRoom, Printable, OneJob, page_free, page_taken}
 use Rattle.claims.proofs.Months.{Print, listing_print, refusal_print, printed, names_of, Reported, TooMany, months_read, months_fit}
 use Rattle.claims.proofs.Ceiled.{ceilings_most}
+use Rattle.std.specs.Prelude.{Some, Ok, None, Err}
 
 -- a ceiling from ceilings of which none is above a million
 limited_at : (cs : List ℕ) (i : ℕ) → get_or cs i 0 ≤ 1000000 → Limited (ceiling_at cs i)
 unfolding ceiling_at
 limited_at cs i h = go (are_given cs)
   where
-    go : (t : Bool) → Limited (cond t (At (get_or cs i 0)) Absent)
+    go : (t : Bool) → Limited (cond t (Some (get_or cs i 0)) None)
     go true = h
     go false = tt
 
-module _ (text : List ℕ) (room : ℕ) (done : job_outcome text form.Listing room ≡ Done) where
+module _ (text : List ℕ) (room : ℕ) (done : job_outcome text form.Listing room ≡ Ok tt) where
   -- the text's weights, its ceilings, its leaf order and the names in that order
   abbrev ws : List Float
   ws = job_weights text (job_in text)
@@ -66,10 +64,10 @@ module _ (text : List ℕ) (room : ℕ) (done : job_outcome text form.Listing ro
   whole = built text (allocator_done text form.Listing room done)
 
   -- nothing in its table refuses it, so it is a job text, of at most 64 assets
-  tabled : first (text_lines text) ≡ Done
+  tabled : first (text_lines text) ≡ Ok tt
   unfolding job_outcome text_table
   tabled =
-      let a : first (text_table text form.Listing room) ≡ Done = (both_done _ _ done).0 in
+      let a : first (text_table text form.Listing room) ≡ (Ok tt) = (both_done _ _ done).0 in
       (parts_done ((ltb 65536 (length text), OverLimit) ∷ (ltb room (least_for form.Listing), ShortBuffer) ∷ []) (text_lines text) a).1
 
   job : is_job text ≡ true
@@ -83,7 +81,7 @@ module _ (text : List ℕ) (room : ℕ) (done : job_outcome text form.Listing ro
   like = rw whole.weighed (ceilings_like text)
 
   -- neither 13 nor 18 nor 20 refuses its figures
-  passed : first (figures_lines ws cs) ≡ Done
+  passed : first (figures_lines ws cs) ≡ Ok tt
   passed = figures_done text form.Listing room done
 
   -- the records and the order that an accepted text has printed
@@ -124,8 +122,8 @@ module _ (text : List ℕ) (room : ℕ) (done : job_outcome text form.Listing ro
 
 -- n where the text is accepted, else 0
 abbrev pub if_accepted : Outcome → ℕ → ℕ
-if_accepted Done n = n
-if_accepted (Refused r) n = 0
+if_accepted (Ok _) n = n
+if_accepted (Err r) n = 0
 
 -- the names that it lists, and 1 if it is accepted
 unfoldable pub names_listed : List ℕ → ℕ
@@ -142,8 +140,8 @@ unfolding weights_print names_listed one_accepted
 weights_print_lem text = go (job_outcome text form.Listing 8192) refl
   where
     go : (o : Outcome) → job_outcome text form.Listing 8192 ≡ o → Print (printed_by o (listing_of text)) (if_accepted o (assets text)) (if_accepted o 1)
-    go Done e = listing_page text 8192 e
-    go (Refused r) e = refusal_print r
+    go (Ok _) e = listing_page text 8192 e
+    go (Err r) e = refusal_print r
 
 -- the report on the concatenated output of `weights` for any texts: each is counted, the accepted ones as accepted, or the report is refused by 9; never by 15
 pub weights_reported : (texts : List (List ℕ)) → Reported weights_print names_listed one_accepted opening texts ⊎ TooMany weights_print names_listed one_accepted opening texts

@@ -42,10 +42,10 @@ use Rattle.writing.proofs.Meaning.{digits_worth, decimal_worth, decimal_front}
 use Rattle.slips.specs.Slips.{is_trim, is_amount, is_given, is_held, held_in, order_in, refused_in, slip_in, slip_of}
 use Rattle.slips.specs.declared.Slip.TheVariants as slip
 use Rattle.listing.specs.Listing.{ceiling_field, holding_line, refusal_line}
-use Rattle.listing.specs.declared.Ceiling.{Ceiling}
-use Rattle.listing.specs.declared.Ceiling.TheVariants.{Absent, At}
 use Rattle.listing.specs.declared.Holding.{Holding}
 use Rattle.claims.proofs.Parted.{Free, AllFree, free_append, free_by, parted, split_parted, parted_free}
+use Rattle.std.specs.Prelude.{Some, None}
+use Rattle.listing.specs.Outcomes.{Ceiling}
 
 -- ---- digits
 
@@ -176,13 +176,13 @@ line_between = record { names = refl; tens = refl; sixteens = refl }
 
 -- a ceiling is at most a million, where there is one
 abbrev pub Limited : Ceiling → Type 0
-Limited Absent = Unit
-Limited (At c) = c ≤ 1000000
+Limited None = Unit
+Limited (Some c) = c ≤ 1000000
 
 -- the fields after the name: bits, millionths, and a ceiling where there is one
 abbrev ceiling_fields : Ceiling → List (List ℕ)
-ceiling_fields Absent = []
-ceiling_fields (At c) = decimal c ∷ []
+ceiling_fields None = []
+ceiling_fields (Some c) = decimal c ∷ []
 
 abbrev held_fields : Holding → List (List ℕ)
 held_fields h = hex_of (to_bits binary64 h.weight) ∷ decimal h.millionths ∷ ceiling_fields h.ceiling
@@ -195,8 +195,8 @@ held_line w h = w ++ parted tabulator (held_fields h)
 -- the ceiling as `weights` prints it is that field, after its tab
 ceiling_fields_lem : (c : Ceiling) → ceiling_field c ≡ parted tabulator (ceiling_fields c)
 unfolding ceiling_field
-ceiling_fields_lem Absent = refl
-ceiling_fields_lem (At c) = ap (λ (l : List ℕ). tabulator ∷ l) (sym (append-nil (decimal c)))
+ceiling_fields_lem None = refl
+ceiling_fields_lem (Some c) = ap (λ (l : List ℕ). tabulator ∷ l) (sym (append-nil (decimal c)))
 
 -- what `weights` prints of a holding is that line and a newline
 pub holding_line_lem : (w : List ℕ) (h : Holding) → holding_line w h ≡ held_line w h ++ (newline ∷ [])
@@ -208,8 +208,8 @@ fields_free : (d : ℕ) (h : Holding) → Between d → AllFree d (held_fields h
 fields_free d h b = (hex_free d (to_bits binary64 h.weight) b.sixteens, (decimal_free d h.millionths b.tens, go h.ceiling))
   where
     go : (c : Ceiling) → AllFree d (ceiling_fields c)
-    go Absent = tt
-    go (At c) = (decimal_free d c b.tens, tt)
+    go None = tt
+    go (Some c) = (decimal_free d c b.tens, tt)
 
 -- no byte of the line is a newline
 pub held_free : (w : List ℕ) (h : Holding) → is_name w ≡ true → Free newline (held_line w h)
@@ -223,8 +223,8 @@ held_split w h n = split_parted tabulator w (held_fields h) (name_free tabulator
 
 -- a ceiling takes at most 8 bytes with its tab
 ceiling_short : (c : Ceiling) → Limited c → length (parted tabulator (ceiling_fields c)) ≤ 8
-ceiling_short Absent l = omega arith
-ceiling_short (At c) l = rw (append-nil (decimal c)) (omega (arith, decimal_short c (omega arith)))
+ceiling_short None l = omega arith
+ceiling_short (Some c) l = rw (append-nil (decimal c)) (omega (arith, decimal_short c (omega arith)))
 
 -- the line has at most 49 bytes
 held_short : (w : List ℕ) (h : Holding) → is_name w ≡ true → h.millionths ≤ 1000000 → Limited h.ceiling → length (held_line w h) ≤ 49
@@ -235,8 +235,8 @@ held_short w h n m l =
 -- three fields, or four, the last an amount
 held_in_lem : (w b m : List ℕ) (c : Ceiling) → is_name w ≡ true → is_bits b ≡ true → is_amount m ≡ true → Limited c → is_held (w ∷ b ∷ m ∷ ceiling_fields c) ≡ true
 unfolding is_held
-held_in_lem w b m Absent n h a l = rw (n, h, a)
-held_in_lem w b m (At c) n h a l = rw (n, h, a, decimal_amount c l)
+held_in_lem w b m None n h a l = rw (n, h, a)
+held_in_lem w b m (Some c) n h a l = rw (n, h, a, decimal_amount c l)
 
 -- a short line whose first field is neither word is a holding or none
 slip_held : (l w : List ℕ) (ws : List (List ℕ)) → length l ≤ 4357 → split tabulator l ≡ w ∷ ws → same w (bytes "order") ≡ false → same w (bytes "refused") ≡ false → slip_of l ≡ held_in (w ∷ ws)

@@ -5,7 +5,12 @@ use Prim.Native.Nat.{ℕ}
 use mathlib.Core.Path.{◌≡◌, refl, sym, ◌∙◌}
 use mathlib.Core.List.{List}
 use lib.Ieee.{Float}
-use Rattle.refusal.specs.declared.Outcome.{Outcome}
+use denote.RattleType.{RattleType}
+use denote.Param.Laws.{Laws, IsCopy}
+use mir.Syntax.{Dict}
+use Rattle.std.specs.declared.clone.Clone.{Ghosts as Clones}
+use Rattle.lent.specs.declared.Zero.{Ghosts as Zeros}
+use Rattle.std.specs.Prelude.{Ok, Err}
 use Rattle.linkage.specs.declared.Distance.{Distance}
 use Rattle.linkage.specs.declared.Linkage.{Linkage}
 use Rattle.parity.specs.Parity as parity
@@ -33,12 +38,12 @@ use Rattle.arithmetic.specs.contracts.one_over as the_arithmetic_one_over
 use Rattle.arithmetic.proofs.one_over.Reads as arithmetic_one_over_reads
 use Rattle.arithmetic.specs.contracts.sqrt as the_arithmetic_sqrt
 use Rattle.arithmetic.proofs.sqrt.Reads as arithmetic_sqrt_reads
-use Rattle.refusal.specs.contracts.number as the_refusal_number
-use Rattle.refusal.proofs.number.Reads as refusal_number_reads
-use Rattle.refusal.specs.contracts.requested as the_refusal_requested
-use Rattle.refusal.proofs.requested.Reads as refusal_requested_reads
-use Rattle.refusal.specs.contracts.assets as the_refusal_assets
-use Rattle.refusal.proofs.assets.Reads as refusal_assets_reads
+use Rattle.refusal.specs.contracts.Refusal.number as the_refusal_number
+use Rattle.refusal.proofs.Refusal.number.Reads as refusal_number_reads
+use Rattle.refusal.specs.contracts.Refusal.requested as the_refusal_requested
+use Rattle.refusal.proofs.Refusal.requested.Reads as refusal_requested_reads
+use Rattle.refusal.specs.contracts.Refusal.assets as the_refusal_assets
+use Rattle.refusal.proofs.Refusal.assets.Reads as refusal_assets_reads
 use Rattle.refusal.specs.contracts.refuse as the_refusal_refuse
 use Rattle.refusal.proofs.refuse.Reads as refusal_refuse_reads
 use Rattle.refusal.specs.contracts.and_then as the_refusal_and_then
@@ -49,16 +54,8 @@ use Rattle.refusal.specs.contracts.either as the_refusal_either
 use Rattle.refusal.proofs.either.Reads as refusal_either_reads
 use Rattle.lent.specs.contracts.clear as the_lent_clear
 use Rattle.lent.proofs.clear.Reads as lent_clear_reads
-use Rattle.lent.specs.contracts.clear_numbers as the_lent_clear_numbers
-use Rattle.lent.proofs.clear_numbers.Reads as lent_clear_numbers_reads
-use Rattle.lent.specs.contracts.clear_bytes as the_lent_clear_bytes
-use Rattle.lent.proofs.clear_bytes.Reads as lent_clear_bytes_reads
 use Rattle.lent.specs.contracts.clear_from as the_lent_clear_from
 use Rattle.lent.proofs.clear_from.Reads as lent_clear_from_reads
-use Rattle.lent.specs.contracts.clear_numbers_from as the_lent_clear_numbers_from
-use Rattle.lent.proofs.clear_numbers_from.Reads as lent_clear_numbers_from_reads
-use Rattle.lent.specs.contracts.clear_bytes_from as the_lent_clear_bytes_from
-use Rattle.lent.proofs.clear_bytes_from.Reads as lent_clear_bytes_from_reads
 use Rattle.lent.specs.contracts.copy as the_lent_copy
 use Rattle.lent.proofs.copy.Reads as lent_copy_reads
 use Rattle.lent.specs.contracts.over_limit as the_lent_over_limit
@@ -301,6 +298,10 @@ use Rattle.slips.specs.contracts.read_slip as the_slips_read_slip
 use Rattle.slips.proofs.read_slip.Reads as slips_read_slip_reads
 use Rattle.month.specs.contracts.begin_report as the_month_begin_report
 use Rattle.month.proofs.begin_report.Reads as month_begin_report_reads
+use Rattle.month.specs.contracts.at_line as the_month_at_line
+use Rattle.month.proofs.at_line.Reads as month_at_line_reads
+use Rattle.month.specs.contracts.names_held as the_month_names_held
+use Rattle.month.proofs.names_held.Reads as month_names_held_reads
 use Rattle.month.specs.contracts.take_line as the_month_take_line
 use Rattle.month.proofs.take_line.Reads as month_take_line_reads
 use Rattle.cutting.specs.contracts.begin_feed as the_cutting_begin_feed
@@ -353,6 +354,7 @@ use Rattle.capi.specs.contracts.rovignesc_sheet as the_capi_rovignesc_sheet
 use Rattle.capi.proofs.rovignesc_sheet.Reads as capi_rovignesc_sheet_reads
 use Rattle.capi.specs.contracts.rovignesc_refusal_line as the_capi_rovignesc_refusal_line
 use Rattle.capi.proofs.rovignesc_refusal_line.Reads as capi_rovignesc_refusal_line_reads
+use Rattle.refusal.specs.Table.{Outcome}
 
 -- ---- the law: what is the same as a third is the same
 
@@ -475,23 +477,14 @@ refusal_either κs a r r' e e' p q = (sole p q, refl)
 
 -- ---- lent: lent buffers and sizes
 
-pub lent_clear : Sole the_lent_clear.ended lent_clear_reads.Post
-lent_clear κs a r r' e e' p q = (refl, λ i. (sole p q i, tt))
+-- of entries of any type that has a zero: of doubles, numbers and bytes
+pub lent_clear : (T : RattleType) (l : Laws T) (i : IsCopy T) (z : Zeros T.Denot) (d : Dict) (c : Clones T.Denot) (k : Dict)
+    → Sole (the_lent_clear.ended T z d c k) (lent_clear_reads.Post T l i z d c k)
+lent_clear T l i z d c k κs a r r' e e' p q = (refl, λ j. (sole p q j, tt))
 
-pub lent_clear_numbers : Sole the_lent_clear_numbers.ended lent_clear_numbers_reads.Post
-lent_clear_numbers κs a r r' e e' p q = (refl, λ i. (sole p q i, tt))
-
-pub lent_clear_bytes : Sole the_lent_clear_bytes.ended lent_clear_bytes_reads.Post
-lent_clear_bytes κs a r r' e e' p q = (refl, λ i. (sole p q i, tt))
-
-pub lent_clear_from : Sole the_lent_clear_from.ended lent_clear_from_reads.Post
-lent_clear_from κs a r r' e e' p q = (refl, λ i. (sole p q i, (tt, tt)))
-
-pub lent_clear_numbers_from : Sole the_lent_clear_numbers_from.ended lent_clear_numbers_from_reads.Post
-lent_clear_numbers_from κs a r r' e e' p q = (refl, λ i. (sole p q i, (tt, tt)))
-
-pub lent_clear_bytes_from : Sole the_lent_clear_bytes_from.ended lent_clear_bytes_from_reads.Post
-lent_clear_bytes_from κs a r r' e e' p q = (refl, λ i. (sole p q i, (tt, tt)))
+pub lent_clear_from : (T : RattleType) (l : Laws T) (i : IsCopy T) (z : Zeros T.Denot) (d : Dict) (c : Clones T.Denot) (k : Dict)
+    → Sole (the_lent_clear_from.ended T z d c k) (lent_clear_from_reads.Post T l i z d c k)
+lent_clear_from T l i z d c k κs a r r' e e' p q = (refl, λ j. (sole p q j, (tt, tt)))
 
 pub lent_copy : Sole the_lent_copy.ended lent_copy_reads.Post
 lent_copy κs a r r' e e' p q = (refl, λ i. (tt, (sole p q i, tt)))
@@ -927,6 +920,13 @@ month_begin_report κs a r r' e e' p q = (sole p.answer q.answer, λ i. (sole p.
 
 pub month_take_line : Sole the_month_take_line.ended month_take_line_reads.Post
 month_take_line κs a r r' e e' p q = (sole p.answer q.answer, λ i. (sole p.table_is q.table_is i, (tt, (tt, tt))))
+
+pub month_at_line : (t : RattleType) (l : Laws t) (d : Dict) → Sole (the_month_at_line.ended t d) (month_at_line_reads.Post t l d)
+month_at_line t l d κs (Ok x, b) r r' e e' p q = (sole p q, refl)
+month_at_line t l d κs (Err x, b) r r' e e' p q = (sole p q, refl)
+
+pub month_names_held : Sole the_month_names_held.ended month_names_held_reads.Post
+month_names_held κs a r r' e e' p q = (sole p q, refl)
 
 pub cutting_begin_feed : Sole the_cutting_begin_feed.ended cutting_begin_feed_reads.Post
 cutting_begin_feed κs a r r' e e' p q = (sole p.answer q.answer, λ i. (sole p.table_is q.table_is i, (sole p.held_is q.held_is i, tt)))

@@ -14,7 +14,6 @@ use Rattle.refusal.specs.Refusal.{number_of}
 use Rattle.refusal.specs.Table.{first}
 use Rattle.refusal.specs.declared.Refusal.{Refusal}
 use Rattle.refusal.specs.declared.Refusal.TheVariants.{OverLimit, MalformedText}
-use Rattle.refusal.specs.declared.Outcome.TheVariants.{Done, Refused}
 use Rattle.refusal.proofs.Tables.{table_end, table_pass, table_hit}
 use Rattle.lent.specs.Grid.{tab}
 use Rattle.lent.specs.Count.{upto}
@@ -34,6 +33,7 @@ use Rattle.listing.specs.Listing.{holding_at, line_of, ordered, listing, refusal
 use Rattle.listing.specs.declared.Holding.{Holding}
 use Rattle.claims.proofs.Parted.{Free, AllFree, all_free_append, parted, parted_append, ended, ended_append, whole_lines_lem}
 use Rattle.claims.proofs.Slips.{all_append, Limited, held_line, holding_line_lem, held_free, holding_read, order_line, order_free, order_read, refused_line, refusal_line_lem, refused_free, refusal_read}
+use Rattle.std.specs.Prelude.{Ok, Err}
 
 -- ---- the lines of a listing
 
@@ -84,7 +84,7 @@ module _ (u : Books) (l : List ℕ) where
   word = piece tabulator l 0
 
   -- a line that is read as k, and that nothing refuses as that
-  by_slip : (k : Slip) → slip_of l ≡ k → first (slip_lines u word k) ≡ Done → book_line u l ≡ at (after_slip u word k)
+  by_slip : (k : Slip) → slip_of l ≡ k → first (slip_lines u word k) ≡ Ok tt → book_line u l ≡ at (after_slip u word k)
   unfolding book_line
   by_slip k e d = rw (e, d)
 
@@ -250,7 +250,7 @@ module _ {s : Books} {k m : ℕ} {ls : List (List ℕ)} (c : Calm s) (a : Along 
         }
 
     -- where there is none, 9
-    over_line : first (slip_lines a.after (piece tabulator l 0) (slip.Held x)) ≡ Refused OverLimit → Over s (ls ++ (l ∷ []))
+    over_line : first (slip_lines a.after (piece tabulator l 0) (slip.Held x)) ≡ Err OverLimit → Over s (ls ++ (l ∷ []))
     unfolding book_line lines_taken
     over_line d = record { line = a.after.line; refused = lines_append (at s) ls (l ∷ []) ∙ rw (a.taken, e, d) }
 
@@ -410,7 +410,7 @@ module _ (s : Books) (x : Refusal) (c : Calm s) where
       }
 
   -- where there is none, 9
-  none_left : most_jobs ≤ s.jobs → (w : List ℕ) → first (slip_lines s w slip.Refused) ≡ Refused OverLimit
+  none_left : most_jobs ≤ s.jobs → (w : List ℕ) → first (slip_lines s w slip.Refused) ≡ Err OverLimit
   unfolding slip_lines
   none_left h w = table_pass _ MalformedText _ (ap not (eq-eqb s.lines 0 c.shut)) ∙ table_hit _ OverLimit _ (lt-ltb most_jobs (s.jobs + 1) (omega arith))
 

@@ -12,12 +12,10 @@ use Rattle.arithmetic.specs.Root.{isqrt, root}
 use Rattle.refusal.specs.Refusal.{number_of}
 use Rattle.refusal.specs.Table.{first}
 use Rattle.lent.specs.Grid.{tab, sum_to, sum_on, sum_rows, any_to}
-use Rattle.lent.specs.Lent.{over_limit, other_length, laid, answer_of}
-use Rattle.lent.specs.declared.Answer.{Answer}
-use Rattle.lent.specs.declared.Answer.TheVariants as answer
+use Rattle.lent.specs.Lent.{over_limit, other_length, laid, answer_of, Answer}
 use Rattle.clusters.specs.Clusters.{recip, recip_sum, shares, term, variance_of, expectation, ratio, ratio_of, outside, any_listed_low, risk_table, size_table, shares_outcome, shares_answer, shares_laid, variance_outcome, variance_answer, sharpe_outcome, sharpe_answer}
-use Rattle.clusters.specs.declared.Risk.{Risk}
-use Rattle.clusters.specs.declared.Risk.TheVariants as risk
+use Rattle.std.specs.Prelude.{Ok, Err}
+use Rattle.clusters.specs.Outcomes.{Risk}
 
 abbrev all : List Bool → Bool
 all [] = true
@@ -39,12 +37,12 @@ bits (x ∷ l) = to_bits binary64 x ∷ bits l
 
 -- 0, or the refusal's number
 abbrev of_answer : Answer → ℕ
-of_answer (answer.Matrix r c) = 0
-of_answer (answer.Refused r) = number_of r
+of_answer (Ok s) = 0
+of_answer (Err r) = number_of r
 
 abbrev of_risk : Risk → List ℕ
-of_risk (risk.Of x) = 0 ∷ to_bits binary64 x ∷ []
-of_risk (risk.Refused r) = number_of r ∷ []
+of_risk (Ok x) = 0 ∷ to_bits binary64 x ∷ []
+of_risk (Err r) = number_of r ∷ []
 
 -- the number, and a buffer of `room` entries
 abbrev weights : List ℕ → ℕ → ℕ → List ℕ → ℕ → List ℕ

@@ -8,17 +8,15 @@ use borrow.Author.Tests.{le-ltb, eq-eqb}
 use lib.Dec.{eqb}
 use lib.ListN.{length}
 use lib.Ieee.{Float}
-use Rattle.refusal.specs.Table.{Line, first, or_else, and_then}
+use Rattle.refusal.specs.Table.{Line, first, or_else, and_then, Outcome}
 use Rattle.refusal.specs.declared.Refusal.{Refusal}
 use Rattle.refusal.specs.declared.Refusal.TheVariants.{DimensionMismatch}
-use Rattle.refusal.specs.declared.Outcome.{Outcome}
-use Rattle.refusal.specs.declared.Outcome.TheVariants.{Done, Refused}
 use Rattle.refusal.proofs.Tables.{table, table_pass, first_append}
 use Rattle.clusters.specs.Clusters.{variance_of, risk_table, size_table, not_square, shares_outcome, variance_outcome, variance_answer, sharpe_outcome, risk_of}
-use Rattle.clusters.specs.Inner.{ListedAssets, told}
+use Rattle.clusters.specs.Inner.{ListedAssets, told, shared}
 use Rattle.clusters.specs.Shares.{none, some, is_none, weights_in}
-use Rattle.clusters.specs.declared.Risk.TheVariants as risk
 use Rattle.clusters.proofs.Laws.{variance_accepted}
+use Rattle.std.specs.Prelude.{Ok, Err}
 
 -- ---- shares
 
@@ -29,6 +27,14 @@ told_yes ws = refl
 pub told_no : (ws : List Float) → told false ws ≡ none
 unfolding told
 told_no ws = refl
+
+pub shared_done : (ws : List Float) → shared (Ok tt) ws ≡ some ws
+unfolding shared
+shared_done ws = refl
+
+pub shared_refused : (r : Refusal) (ws : List Float) → shared (Err r) ws ≡ none
+unfolding shared
+shared_refused r ws = refl
 
 pub is_none_none : is_none none ≡ true
 unfolding is_none
@@ -48,21 +54,21 @@ weights_in_some ws = refl
 
 -- ---- a number, or the refusal
 
-risk_of_lem : (o : Outcome) (v x : Float) → risk_of o v ≡ risk.Of x → (o ≡ Done) × (v ≡ x)
-risk_of_lem Done v x e = (refl, cc)
-risk_of_lem (Refused r) v x e = absurd (let z : ◌≡◌ {A = ℕ} 0 1 = cc in omega arith)
+risk_of_lem : (o : Outcome) (v x : Float) → risk_of o v ≡ Ok x → (o ≡ Ok tt) × (v ≡ x)
+risk_of_lem (Ok _) v x e = (refl, cc)
+risk_of_lem (Err r) v x e = absurd (let z : ◌≡◌ {A = ℕ} 0 1 = cc in omega arith)
 
-risk_not : (o : Outcome) (v : Float) (r : Refusal) → risk_of o v ≡ risk.Refused r → o ≡ Refused r
-risk_not Done v r e = absurd (let z : ◌≡◌ {A = ℕ} 0 1 = cc in omega arith)
-risk_not (Refused r') v r e = cc
+risk_not : (o : Outcome) (v : Float) (r : Refusal) → risk_of o v ≡ Err r → o ≡ Err r
+risk_not (Ok _) v r e = absurd (let z : ◌≡◌ {A = ℕ} 0 1 = cc in omega arith)
+risk_not (Err r') v r e = cc
 
 module _ (cov : List Float) (rows w : ℕ) (assets : List ℕ) where
-  pub variance_not : (r : Refusal) → variance_answer cov rows w assets ≡ risk.Refused r → variance_outcome cov rows w assets ≡ Refused r
+  pub variance_not : (r : Refusal) → variance_answer cov rows w assets ≡ Err r → variance_outcome cov rows w assets ≡ Err r
   unfolding variance_answer
   variance_not r e = risk_not (variance_outcome cov rows w assets) (variance_of cov w assets) r e
 
-  module _ (x : Float) (e : variance_answer cov rows w assets ≡ risk.Of x) where
-    pub variance_outcome_lem : variance_outcome cov rows w assets ≡ Done
+  module _ (x : Float) (e : variance_answer cov rows w assets ≡ Ok x) where
+    pub variance_outcome_lem : variance_outcome cov rows w assets ≡ Ok tt
     unfolding variance_answer
     variance_outcome_lem = (risk_of_lem (variance_outcome cov rows w assets) (variance_of cov w assets) x e).0
 

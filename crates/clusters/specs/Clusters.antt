@@ -1,20 +1,16 @@
 -- Document 01, "Sharing out": the risk of a list of assets, under a covariance of n columns. Definitions only.
-use Rattle.std.specs.Prelude.{ℕ, Bool, not, cond, List, [], ◌∷◌, ◌++◌, ltb, leb, eqb, length, get_or, Float}
+use Rattle.std.specs.Prelude.{ℕ, Bool, not, cond, List, [], ◌∷◌, ◌++◌, ltb, leb, eqb, length, get_or, Float, Ok, Err}
 use Rattle.std.specs.Float.{nan, binary64}
 use Rattle.std.specs.Float.Ieee.{mul, div, le}
 use Rattle.arithmetic.specs.Constants.{pz, unit}
 use Rattle.arithmetic.specs.Arithmetic.{max_of}
 use Rattle.arithmetic.specs.Root.{root}
-use Rattle.refusal.specs.Table.{Line, first}
+use Rattle.refusal.specs.Table.{Line, first, Outcome}
 use Rattle.refusal.specs.Telling.{Telling, accepts, refuses}
 use Rattle.refusal.specs.declared.Refusal.TheVariants.{NoData, DimensionMismatch, OverLimit, SliceLength, ShortBuffer, NoTree}
-use Rattle.refusal.specs.declared.Outcome.{Outcome}
-use Rattle.refusal.specs.declared.Outcome.TheVariants.{Done, Refused}
 use Rattle.lent.specs.Grid.{cell, tab, sum_to, sum_rows, any_to}
-use Rattle.lent.specs.Lent.{most_assets, over_limit, other_length, laid, answer_of}
-use Rattle.lent.specs.declared.Answer.{Answer}
-use Rattle.clusters.specs.declared.Risk.{Risk}
-use Rattle.clusters.specs.declared.Risk.TheVariants as risk
+use Rattle.lent.specs.Lent.{most_assets, over_limit, other_length, laid, answer_of, Answer}
+use Rattle.clusters.specs.Outcomes.{Risk}
 
 -- the k-th asset listed, and the variance of an asset
 abbrev pub nth : List ℕ → ℕ → ℕ
@@ -103,13 +99,13 @@ shares_laid cov rows w assets room = laid pz (shares_outcome cov rows w assets r
 
 -- a number, or the refusal
 abbrev pub risk_of : Outcome → Float → Risk
-risk_of Done x = risk.Of x
-risk_of (Refused r) x = risk.Refused r
+risk_of (Ok _) x = Ok x
+risk_of (Err r) x = Err r
 
 -- 0 and the number, or the refusal's number and values
 abbrev pub risk_tells : Risk → Telling Float
-risk_tells (risk.Of x) = accepts x
-risk_tells (risk.Refused r) = refuses r
+risk_tells (Ok x) = accepts x
+risk_tells (Err r) = refuses r
 
 unfoldable pub variance_outcome : List Float → ℕ → ℕ → List ℕ → Outcome
 unfolding size_table risk_table

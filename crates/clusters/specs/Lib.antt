@@ -1,3 +1,4 @@
+pub mod Outcomes
 pub mod Clusters
 pub mod Shares
 pub mod Inner

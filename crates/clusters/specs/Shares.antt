@@ -1,10 +1,9 @@
 -- Weights that are being shared out, by either allocator: the weights, or a refusal, which says nothing of them. Definitions only.
-use Rattle.std.specs.Prelude.{Bool, true, false, List, [], Float}
+use Rattle.std.specs.Prelude.{Bool, true, false, List, [], Float, Ok, Err}
 use Rattle.std.specs.Float.{binary64}
 use Rattle.std.specs.Float.Ieee.{add, sub, div}
 use Rattle.arithmetic.specs.Constants.{unit, epsilon}
-use Rattle.clusters.specs.declared.Risk.{Risk}
-use Rattle.clusters.specs.declared.Risk.TheVariants as risk
+use Rattle.clusters.specs.Outcomes.{Risk}
 
 -- how two sides share, l and r being their risks: "Factor 1 − l/(l + r + EPSILON)"
 unfoldable pub factor_of : Float → Float → Float
@@ -20,8 +19,8 @@ with_shares none f = none
 with_shares (some ws) f = f ws
 
 abbrev pub with_risk : Risk → (Float → Shares) → Shares
-with_risk (risk.Refused r) f = none
-with_risk (risk.Of x) f = f x
+with_risk (Err r) f = none
+with_risk (Ok x) f = f x
 
 -- a side was refused
 unfoldable pub is_none : Shares → Bool

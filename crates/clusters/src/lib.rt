@@ -1,27 +1,19 @@
 // The risk of a list of assets under a covariance: one copy for both allocators.
 #![tactic(auto)]
 
-ghost use Rattle.std.specs.Prelude.{◌≡◌, ℕ, ◌+◌, ◌*◌, ◌<◌, ◌≤◌, length, get_or};
+ghost use Rattle.std.specs.Prelude.{◌≡◌, ℕ, ◌+◌, ◌*◌, ◌<◌, ◌≤◌, length, get_or, Ok};
 ghost use Rattle.std.specs.Float.{nan, binary64};
 ghost use Rattle.std.specs.Float.Ieee.{mul};
 ghost use Rattle.arithmetic.specs.Constants.{pz};
 ghost use Rattle.arithmetic.specs.Arithmetic.{max_of};
-ghost use Rattle.refusal.specs.Table.{first, and_then};
-ghost use Rattle.refusal.specs.declared.Outcome.TheVariants.{Done};
+ghost use Rattle.refusal.specs.Table.{first};
 ghost use Rattle.lent.specs.Grid.{cell, over, sum_to, sum_on, sum_rows};
 ghost use Rattle.clusters.specs.Clusters.{nth, variance_at, recip_sum, shares, term, ratio, ratio_of, variance_of};
 ghost use Rattle.clusters.specs.Clusters.{outside, any_listed_low, risk_table, size_table, shares_answer, shares_laid, variance_answer, sharpe_answer};
 ghost use Rattle.clusters.specs.Inner.{ListedAssets};
 
-use lent::Answer;
-use refusal::{Outcome, Refusal};
-
-// A variance or a ratio, or the refusal.
-#[derive(Clone, Copy)]
-pub enum Risk {
-    Of(f64),
-    Refused(Refusal),
-}
+use lent::Size;
+use refusal::Refusal;
 
 // Cell (r, c) of a matrix of w columns.
 fn at(xs: &[f64], w: usize, r: usize, c: usize) -> f64
@@ -35,23 +27,14 @@ fn at(xs: &[f64], w: usize, r: usize, c: usize) -> f64
 pub fn any_outside(n: usize, assets: &[usize]) -> bool
     ensures { result ≡ outside n assets.now }
 {
-    let mut k = 0;
-    while k < assets.len() {
-        if n <= assets[k] {
-            return true;
-        }
-        k += 1;
-    }
-    false
+    assets.iter().any(|a| n <= *a)
 }
 
-// The variance of the k-th asset listed.
-fn own_variance(cov: &[f64], n: usize, assets: &[usize], k: usize) -> f64
-    requires listed_assets { ListedAssets cov.now n assets.now }
-    requires k_in_bounds { k < length assets.now }
-    ensures { result ≡ variance_at cov.now n (nth assets.now k) }
+// The variance of asset a.
+fn own_variance(cov: &[f64], n: usize, a: usize) -> f64
+    requires { a * n + a < length cov.now }
+    ensures { result ≡ variance_at cov.now n a }
 {
-    let a = assets[k];
     at(cov, n, a, a)
 }
 
@@ -60,12 +43,10 @@ fn any_low(cov: &[f64], n: usize, assets: &[usize]) -> bool
     requires { ListedAssets cov.now n assets.now }
     ensures { result ≡ any_listed_low cov.now n assets.now }
 {
-    let mut k = 0;
-    while k < assets.len() {
-        if own_variance(cov, n, assets, k) <= 0.0 {
+    for &a in assets {
+        if own_variance(cov, n, a) <= 0.0 {
             return true;
         }
-        k += 1;
     }
     false
 }
@@ -75,10 +56,8 @@ fn recip_sum(cov: &[f64], n: usize, assets: &[usize]) -> f64
     ensures { result ≡ recip_sum cov.now n assets.now }
 {
     let mut s = 0.0;
-    let mut k = 0;
-    while k < assets.len() {
-        s = s + 1.0 / own_variance(cov, n, assets, k);
-        k += 1;
+    for &a in assets {
+        s += 1.0 / own_variance(cov, n, a);
     }
     s
 }
@@ -90,79 +69,58 @@ fn fill(cov: &[f64], n: usize, assets: &[usize], out: &mut [f64])
     ensures { out.new ≡ over (shares cov.now n assets.now) out.old }
 {
     let s = recip_sum(cov, n, assets);
-    let mut k = 0;
-    while k < assets.len() {
-        out[k] = arithmetic::settled(1.0 / own_variance(cov, n, assets, k) / s);
-        k += 1;
+    for (k, &a) in assets.iter().enumerate() {
+        out[k] = arithmetic::settled(1.0 / own_variance(cov, n, a) / s);
     }
 }
 
 // The refusal that the sizes give. Nothing is read before it is known.
-fn judge_sizes(cov: &[f64], rows: usize, columns: usize, assets: &[usize]) -> Outcome
+#[tactic(auto, unfolding(crate::specs::Clusters::size_table, refusal::specs::Table::first, refusal::specs::Table::or_else))]
+fn judge_sizes(cov: &[f64], rows: usize, columns: usize, assets: &[usize]) -> Result<(), Refusal>
     ensures { result ≡ first (size_table cov.now rows columns assets.now) }
 {
-    let rest = refusal::refuse(
+    refusal::refuse(lent::over_limit(rows, columns), Refusal::OverLimit)?;
+    refusal::refuse(lent::MOST_ASSETS < assets.len(), Refusal::OverLimit)?;
+    refusal::refuse(
         lent::has_other_length(cov.len(), rows, columns),
         Refusal::SliceLength,
-        Outcome::Done,
-    );
-    let rest = refusal::refuse(lent::MOST_ASSETS < assets.len(), Refusal::OverLimit, rest);
-    refusal::refuse(lent::over_limit(rows, columns), Refusal::OverLimit, rest)
+    )
 }
 
 // The refusal that the asset numbers and the variances give. A variance is read once every asset number is known to be one.
-fn judge_risk(cov: &[f64], n: usize, assets: &[usize]) -> Outcome
+#[tactic(auto, unfolding(crate::specs::Clusters::risk_table, refusal::specs::Table::first, refusal::specs::Table::or_else))]
+fn judge_risk(cov: &[f64], n: usize, assets: &[usize]) -> Result<(), Refusal>
     requires cov_len { length cov.now ≡ n * n }
     requires assets_len_bound { length assets.now ≤ 64 }
     ensures { result ≡ first (risk_table cov.now n assets.now) }
 {
-    if any_outside(n, assets) {
-        return Outcome::Refused(Refusal::NoTree);
-    }
-    let rest = refusal::refuse(
-        recip_sum(cov, n, assets) <= 0.0,
-        Refusal::NoData,
-        Outcome::Done,
-    );
-    refusal::refuse(any_low(cov, n, assets), Refusal::NoData, rest)
-}
-
-// The refusal, if there is one: of the sizes, of what comes between (11, the 3s), of the risk.
-fn judge(cov: &[f64], rows: usize, columns: usize, assets: &[usize], between: Outcome) -> Outcome
-    requires { between ≡ Done → rows ≡ columns }
-    ensures { result ≡ and_then (first (size_table cov.now rows columns assets.now))
-        (and_then between (first (risk_table cov.now columns assets.now))) }
-{
-    let said = judge_sizes(cov, rows, columns, assets);
-    let Outcome::Done = said else {
-        return said;
-    };
-    let Outcome::Done = between else {
-        return between;
-    };
-    judge_risk(cov, columns, assets)
+    refusal::refuse(any_outside(n, assets), Refusal::NoTree)?;
+    refusal::refuse(any_low(cov, n, assets), Refusal::NoData)?;
+    refusal::refuse(recip_sum(cov, n, assets) <= 0.0, Refusal::NoData)
 }
 
 // 1/v over the sum of the reciprocals, for each asset listed.
+#[tactic(auto, using(crate::proofs::Laws::shares_stages, crate::proofs::Laws::shares_done, crate::proofs::Laws::laid_refused_shares, crate::proofs::Laws::laid_done_shares), unfolding(refusal::specs::Table::and_then))]
 pub fn inverse_variance_weights(
     cov: &[f64],
     rows: usize,
     columns: usize,
     assets: &[usize],
     out: &mut [f64],
-) -> Answer
+) -> Result<Size, Refusal>
     ensures value { result ≡ shares_answer cov.now rows columns assets.now (length out.old) }
     ensures out_after { out.new ≡ shares_laid cov.now rows columns assets.now (length out.old) }
 {
-    let rest = refusal::refuse(rows != columns, Refusal::DimensionMismatch, Outcome::Done);
-    let fits = refusal::refuse(out.len() < assets.len(), Refusal::ShortBuffer, rest);
-    let said = judge(cov, rows, columns, assets, fits);
     lent::clear(out);
-    let Outcome::Done = said else {
-        return lent::answered(said, 1, assets.len());
-    };
+    judge_sizes(cov, rows, columns, assets)?;
+    refusal::refuse(out.len() < assets.len(), Refusal::ShortBuffer)?;
+    refusal::refuse(rows != columns, Refusal::DimensionMismatch)?;
+    judge_risk(cov, columns, assets)?;
     fill(cov, columns, assets, out);
-    lent::answered(said, 1, assets.len())
+    Ok(Size {
+        rows: 1,
+        columns: assets.len(),
+    })
 }
 
 // The terms of row i, added to v.
@@ -174,11 +132,8 @@ fn add_row(cov: &[f64], n: usize, assets: &[usize], w: &[f64; 64], i: usize, v: 
     let a = assets[i];
     let x = w[i];
     let mut s = v;
-    let mut j = 0;
-    while j < assets.len() {
-        let b = assets[j];
-        s = s + x * at(cov, n, a, b) * w[j];
-        j += 1;
+    for (j, &b) in assets.iter().enumerate() {
+        s += x * at(cov, n, a, b) * w[j];
     }
     s
 }
@@ -196,10 +151,8 @@ fn weighted_variance(cov: &[f64], n: usize, assets: &[usize], w: &[f64; 64]) -> 
     ensures { result ≡ max_of (sum_rows (length assets.now) (length assets.now) (term cov.now n assets.now w.now)) pz }
 {
     let mut v = 0.0;
-    let mut i = 0;
-    while i < assets.len() {
+    for i in 0..assets.len() {
         v = add_row(cov, n, assets, w, i, v);
-        i += 1;
     }
     at_least_zero(v)
 }
@@ -214,15 +167,19 @@ fn variance(cov: &[f64], n: usize, assets: &[usize]) -> f64
 }
 
 // The double sum of weight, covariance and weight, or 0 where that is below 0 or NaN.
-pub fn cluster_variance(cov: &[f64], rows: usize, columns: usize, assets: &[usize]) -> Risk
+#[tactic(auto, using(crate::proofs::Laws::variance_stages, crate::proofs::Laws::variance_done), unfolding(refusal::specs::Table::and_then))]
+pub fn cluster_variance(
+    cov: &[f64],
+    rows: usize,
+    columns: usize,
+    assets: &[usize],
+) -> Result<f64, Refusal>
     ensures { result ≡ variance_answer cov.now rows columns assets.now }
 {
-    let fits = refusal::refuse(rows != columns, Refusal::DimensionMismatch, Outcome::Done);
-    let said = judge(cov, rows, columns, assets, fits);
-    match said {
-        Outcome::Refused(r) => Risk::Refused(r),
-        Outcome::Done => Risk::Of(variance(cov, columns, assets)),
-    }
+    judge_sizes(cov, rows, columns, assets)?;
+    refusal::refuse(rows != columns, Refusal::DimensionMismatch)?;
+    judge_risk(cov, columns, assets)?;
+    Ok(variance(cov, columns, assets))
 }
 
 // The weighted expected return.
@@ -232,15 +189,13 @@ fn expected_of(expected: &[f64], assets: &[usize], w: &[f64; 64]) -> f64
     ensures { result ≡ sum_to (length assets.now) (λ k. mul binary64 (get_or w.now k nan) (get_or expected.now (nth assets.now k) nan)) }
 {
     let mut mu = 0.0;
-    let mut k = 0;
-    while k < assets.len() {
-        let a = assets[k];
-        mu = mu + w[k] * expected[a];
-        k += 1;
+    for (k, &a) in assets.iter().enumerate() {
+        mu += w[k] * expected[a];
     }
     mu
 }
 
+#[tactic(auto, unfolding(crate::specs::Clusters::ratio))]
 fn over_root(mu: f64, v: f64) -> f64
     ensures { result ≡ ratio mu v }
 {
@@ -263,24 +218,19 @@ fn sharpe(expected: &[f64], cov: &[f64], n: usize, assets: &[usize]) -> f64
 }
 
 // The weighted expected return over the root of the variance; 0 where the variance is 0.
+#[tactic(auto, using(crate::proofs::Laws::sharpe_stages, crate::proofs::Laws::sharpe_done), unfolding(refusal::specs::Table::and_then))]
 pub fn cluster_sharpe(
     expected: &[f64],
     cov: &[f64],
     rows: usize,
     columns: usize,
     assets: &[usize],
-) -> Risk
+) -> Result<f64, Refusal>
     ensures { result ≡ sharpe_answer expected.now cov.now rows columns assets.now }
 {
-    let rest = refusal::refuse(
-        expected.len() != columns,
-        Refusal::DimensionMismatch,
-        Outcome::Done,
-    );
-    let fits = refusal::refuse(rows != columns, Refusal::DimensionMismatch, rest);
-    let said = judge(cov, rows, columns, assets, fits);
-    match said {
-        Outcome::Refused(r) => Risk::Refused(r),
-        Outcome::Done => Risk::Of(sharpe(expected, cov, columns, assets)),
-    }
+    judge_sizes(cov, rows, columns, assets)?;
+    refusal::refuse(rows != columns, Refusal::DimensionMismatch)?;
+    refusal::refuse(expected.len() != columns, Refusal::DimensionMismatch)?;
+    judge_risk(cov, columns, assets)?;
+    Ok(sharpe(expected, cov, columns, assets))
 }

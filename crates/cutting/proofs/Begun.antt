@@ -11,31 +11,31 @@ use Rattle.ledger.specs.Ledger.{first_ones}
 use Rattle.month.specs.Month.{Books, opening, Report, at, refused_by, broken_off}
 use Rattle.month.specs.Calls.{books_of, standing, tally_of, progress_of}
 use Rattle.month.specs.declared.Tally.{Tally}
-use Rattle.month.specs.declared.Progress.{Progress}
-use Rattle.month.specs.declared.Progress.TheVariants.{At}
 use Rattle.month.proofs.Steps.{go_on_at}
 use Rattle.cutting.specs.Cutting.{Stream, dry}
 use Rattle.cutting.specs.Calls.{feed_lines, feed_report, streaming, feed_of, ended_by}
 use Rattle.cutting.specs.declared.Feed.{Feed}
 use Rattle.cutting.proofs.Steps.{feed_done, stands_at, again}
+use Rattle.std.specs.Prelude.{Ok}
+use Rattle.month.specs.Outcomes.{Progress}
 
-stands_opening : (t : List ℕ) → length t ≡ 1792 → standing (At (tally_of opening)) t ≡ at opening
+stands_opening : (t : List ℕ) → length t ≡ 1792 → standing (Ok (tally_of opening)) t ≡ at opening
 unfolding tally_of books_of first_ones opening
 stands_opening t e = stands_at (tally_of opening) t e (omega arith)
 
-pub dry_again : (t h : List ℕ) → length t ≡ 1792 → 4357 < length h → streaming (record { progress = At (tally_of opening); held = 0 }) (noughts (length t)) (noughts (length h)) ≡ dry
+pub dry_again : (t h : List ℕ) → length t ≡ 1792 → 4357 < length h → streaming (record { progress = Ok (tally_of opening); held = 0 }) (noughts (length t)) (noughts (length h)) ≡ dry
 unfolding dry
 dry_again t h e g =
     again (tally_of opening) 0 (noughts (length t)) (noughts (length h)) [] opening (stands_opening (noughts (length t)) (length-replicate {A = ℕ} (length t) 0 ∙ e)) (omega arith)
     (omega (arith, length-replicate {A = ℕ} (length h) 0)) refl
 
-pub dry_counts : record { progress = At (tally_of opening); held = 0 } ≡ feed_of dry
+pub dry_counts : record { progress = Ok (tally_of opening); held = 0 } ≡ feed_of dry
 unfolding feed_of dry progress_of
 dry_counts = refl
 
 -- ---- the input's end
 
-stands_again : (y : Tally) (n : ℕ) (t : List ℕ) (room : ℕ) (s : Books) → feed_report (At y) n t room ≡ at s → standing (At y) t ≡ at s
+stands_again : (y : Tally) (n : ℕ) (t : List ℕ) (room : ℕ) (s : Books) → feed_report (Ok y) n t room ≡ at s → standing (Ok y) t ≡ at s
 unfolding feed_report
 stands_again y n t room s e =
     let q = go_on_at (first (feed_lines y.names n (length t) room)) y.line (books_of y t) s e in

@@ -1,18 +1,16 @@
 -- The report in lent buffers, with the bytes of a line that has begun: what the calls promise. Definitions only.
-use Rattle.std.specs.Prelude.{ℕ, ◌+◌, ◌≡◌, not, cond, List, [], ◌∷◌, ltb, eqb, length, take}
+use Rattle.std.specs.Prelude.{ℕ, ◌+◌, ◌≡◌, not, cond, List, [], ◌∷◌, ltb, eqb, length, take, Ok, Err}
 use Rattle.lent.specs.Grid.{noughts}
 use Rattle.lent.specs.Lent.{laid}
 use Rattle.refusal.specs.Table.{Line, first}
 use Rattle.refusal.specs.declared.Refusal.TheVariants.{OverLimit, SliceLength, ShortBuffer, MalformedText}
-use Rattle.refusal.specs.declared.Outcome.TheVariants as outcome
 use Rattle.slips.specs.Slips.{most_line}
 use Rattle.ledger.specs.Ledger.{most_names, table_cells}
 use Rattle.month.specs.Month.{Report, at, refused_by, go_on, opening}
 use Rattle.month.specs.Calls.{books_of, progress_of, tally_of, table_left}
-use Rattle.month.specs.declared.Progress.{Progress}
-use Rattle.month.specs.declared.Progress.TheVariants.{At, Refused}
 use Rattle.cutting.specs.Cutting.{Stream, bytes_taken}
 use Rattle.cutting.specs.declared.Feed.{Feed}
+use Rattle.month.specs.Outcomes.{Progress, fault}
 
 -- 9: more names than a table has room for, or more bytes held than a line can have; 10: the table isn't 256 positions of seven numbers; 11: no room for the longest line and a byte
 unfoldable pub feed_lines : ℕ → ℕ → ℕ → ℕ → List Line
@@ -26,8 +24,8 @@ feed_lines names n cells room =
 -- the report that the counts and the table stand for, beside n held bytes in a buffer of so much room
 unfoldable pub feed_report : Progress → ℕ → List ℕ → ℕ → Report
 unfolding feed_lines books_of
-feed_report (At y) n t room = go_on (first (feed_lines y.names n (length t) room)) y.line (books_of y t)
-feed_report (Refused r k) n t room = refused_by r k
+feed_report (Ok y) n t room = go_on (first (feed_lines y.names n (length t) room)) y.line (books_of y t)
+feed_report (Err s) n t room = refused_by s.refusal s.line
 
 unfoldable pub streaming : Feed → List ℕ → List ℕ → Stream
 unfolding feed_report
@@ -56,7 +54,7 @@ feed_of f = record { progress = progress_of f.report; held = length f.held }
 
 -- a report begun
 pub record FeedBegun (t h : List ℕ) (r : Feed) (t' h' : List ℕ) : Type 0 where
-  pub answer : r ≡ record { progress = At (tally_of opening); held = 0 }
+  pub answer : r ≡ record { progress = Ok (tally_of opening); held = 0 }
   pub table_is : t' ≡ noughts (length t)
   pub held_is : h' ≡ noughts (length h)
 
@@ -64,13 +62,13 @@ pub record FeedBegun (t h : List ℕ) (r : Feed) (t' h' : List ℕ) : Type 0 whe
 pub record TookBytes (t h : List ℕ) (f : Feed) (s : List ℕ) (r : Feed) (t' h' : List ℕ) : Type 0 where
   pub answer : r ≡ feed_of (fed_by (streaming f t h) s)
   pub table_is : t' ≡ table_left (fed_by (streaming f t h) s).report t
-  pub held_is : h' ≡ laid 0 outcome.Done (length h) (fed_by (streaming f t h) s).held
+  pub held_is : h' ≡ laid 0 (Ok tt) (length h) (fed_by (streaming f t h) s).held
   pub stands : streaming r t' h' ≡ fed_by (streaming f t h) s
 
 -- "input .. that breaks off": a line that has begun and not ended
 unfoldable pub ended_by : Progress → ℕ → Progress
-ended_by (At y) n = cond (eqb n 0) (At y) (Refused MalformedText y.line)
-ended_by (Refused r k) n = Refused r k
+ended_by (Ok y) n = cond (eqb n 0) (Ok y) (Err (fault MalformedText y.line))
+ended_by (Err s) n = Err (fault s.refusal s.line)
 
 -- the input's end: what the held bytes make of the counts, and zeros in their buffer
 pub record FeedEnded (h : List ℕ) (f : Feed) (r : Progress) (h' : List ℕ) : Type 0 where

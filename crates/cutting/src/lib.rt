@@ -8,13 +8,13 @@ ghost use Rattle.month.specs.Calls.{progress_of};
 ghost use Rattle.cutting.specs.Calls.{feed_lines, feed_report, FeedBegun, TookBytes, FeedEnded};
 ghost use Rattle.cutting.specs.Inner.{Running, Settled};
 
-use month::Progress;
-use refusal::{Outcome, Refusal};
+use month::{Fault, Tally};
+use refusal::Refusal;
 
 // Where the report stands, and how many bytes of a line that has begun are held.
 #[derive(Clone, Copy)]
 pub struct Feed {
-    pub progress: Progress,
+    pub progress: Result<Tally, Fault>,
     pub held: usize,
 }
 
@@ -22,36 +22,34 @@ pub struct Feed {
 pub fn begin_feed(table: &mut [usize], held: &mut [u8]) -> Feed
     ensures { FeedBegun table.old held.old result table.new held.new }
 {
-    lent::clear_bytes(held);
+    lent::clear(held);
     let progress = month::begin_report(table);
     Feed { progress, held: 0 }
 }
 
 // 9, 10 and 11 of the two buffers, with so many names in the one and n bytes in the other.
-fn judge_feed(names: usize, n: usize, cells: usize, room: usize) -> Outcome
+#[tactic(auto, unfolding(crate::specs::Calls::feed_lines, refusal::specs::Table::first, refusal::specs::Table::or_else))]
+fn judge_feed(names: usize, n: usize, cells: usize, room: usize) -> Result<(), Refusal>
     ensures { result ≡ first (feed_lines names n cells room) }
 {
-    let o = refusal::refuse(
-        room < slips::MOST_LINE + 1,
-        Refusal::ShortBuffer,
-        Outcome::Done,
-    );
-    let o = refusal::refuse(cells != ledger::TABLE_CELLS, Refusal::SliceLength, o);
-    let o = refusal::refuse(slips::MOST_LINE < n, Refusal::OverLimit, o);
-    refusal::refuse(ledger::MOST_NAMES < names, Refusal::OverLimit, o)
+    refusal::refuse(ledger::MOST_NAMES < names, Refusal::OverLimit)?;
+    refusal::refuse(slips::MOST_LINE < n, Refusal::OverLimit)?;
+    refusal::refuse(cells != ledger::TABLE_CELLS, Refusal::SliceLength)?;
+    refusal::refuse(room < slips::MOST_LINE + 1, Refusal::ShortBuffer)
 }
 
 // The counts, by what the buffers are.
-fn judged(progress: Progress, n: usize, cells: usize, room: usize) -> Progress
+fn judged(
+    progress: Result<Tally, Fault>,
+    n: usize,
+    cells: usize,
+    room: usize,
+) -> Result<Tally, Fault>
     ensures { (t : List ℕ) → length t ≡ cells → result ≡ progress_of (feed_report progress n t room) }
 {
-    let Progress::At(y) = progress else {
-        return progress;
-    };
-    match judge_feed(y.names, n, cells, room) {
-        Outcome::Refused(r) => Progress::Refused(r, y.line),
-        Outcome::Done => progress,
-    }
+    let y = progress?;
+    month::at_line(judge_feed(y.names, n, cells, room), y.line)?;
+    Ok(y)
 }
 
 // A byte that does not end its line is held; the line ends where it has become too long.
@@ -92,10 +90,8 @@ fn take_each(table: &mut [usize], held: &mut [u8], feed: Feed, piece: &[u8]) -> 
     ensures running { (S : Stream) (t₀ : List ℕ) → Running S t₀ feed table.old held.old → Running (bytes_taken S piece.now) t₀ result table.new held.new }
 {
     let mut at = feed;
-    let mut i = 0;
-    while i < piece.len() {
-        at = take_byte(table, held, at, piece[i]);
-        i += 1;
+    for &b in piece {
+        at = take_byte(table, held, at, b);
     }
     at
 }
@@ -104,19 +100,18 @@ fn take_each(table: &mut [usize], held: &mut [u8], feed: Feed, piece: &[u8]) -> 
 fn settle(table: &mut [usize], held: &mut [u8], fed: Feed) -> Feed
     ensures { Settled fed table.old held.old result table.new held.new }
 {
-    let progress = fed.progress;
-    match progress {
-        Progress::Refused(r, k) => {
-            lent::clear_numbers(table);
-            lent::clear_bytes(held);
+    match fed.progress {
+        Err(_) => {
+            lent::clear(table);
+            lent::clear(held);
             Feed {
-                progress: Progress::Refused(r, k),
+                progress: fed.progress,
                 held: 0,
             }
         }
-        Progress::At(y) => {
+        Ok(y) => {
             ledger::clear_past(table, y.names);
-            lent::clear_bytes_from(held, fed.held);
+            lent::clear_from(held, fed.held);
             fed
         }
     }
@@ -126,43 +121,22 @@ fn settle(table: &mut [usize], held: &mut [u8], fed: Feed) -> Feed
 pub fn take_bytes(table: &mut [usize], held: &mut [u8], feed: Feed, piece: &[u8]) -> Feed
     ensures { TookBytes table.old held.old feed piece.now result table.new held.new }
 {
-    let progress = feed.progress;
-    let begun = judged(progress, feed.held, table.len(), held.len());
-    let Progress::At(_) = begun else {
-        return settle(
-            table,
-            held,
-            Feed {
-                progress: begun,
-                held: 0,
-            },
-        );
-    };
-    let fed = take_each(
-        table,
-        held,
-        Feed {
-            progress: begun,
-            held: feed.held,
-        },
-        piece,
-    );
+    let progress = judged(feed.progress, feed.held, table.len(), held.len());
+    let begun = Feed { progress, ..feed };
+    if progress.is_err() {
+        return settle(table, held, begun);
+    }
+    let fed = take_each(table, held, begun, piece);
     settle(table, held, fed)
 }
 
 // The end of the input: a line that has begun and not ended is at fault.
-pub fn end_feed(held: &mut [u8], feed: Feed) -> Progress
+pub fn end_feed(held: &mut [u8], feed: Feed) -> Result<Tally, Fault>
     ensures { FeedEnded held.old feed result held.new }
 {
-    lent::clear_bytes(held);
-    let progress = feed.progress;
-    match progress {
-        Progress::Refused(r, k) => Progress::Refused(r, k),
-        Progress::At(y) => {
-            if feed.held == 0 {
-                return Progress::At(y);
-            }
-            Progress::Refused(Refusal::MalformedText, y.line)
-        }
-    }
+    lent::clear(held);
+    let y = feed.progress?;
+    let broken = refusal::refuse(feed.held != 0, Refusal::MalformedText);
+    month::at_line(broken, y.line)?;
+    Ok(y)
 }

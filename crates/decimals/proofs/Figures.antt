@@ -10,21 +10,21 @@ use lib.Ieee.{binary64, neg, div, of_int, round, units, size, span, climb, odd, 
 use Rattle.text.specs.Bytes.{bytes}
 use Rattle.fields.specs.Split.{onto, split, all}
 use Rattle.fields.specs.Numerals.{digit, number, is_bits}
-use Rattle.fields.specs.declared.Cell.{Cell}
-use Rattle.fields.specs.declared.Cell.TheVariants.{Malformed, Of}
 use Rattle.decimals.specs.Decimal.{signed, bare, shaped, is_bare, digits_of, over_tens, signed_by, is_decimal, decimal_of, is_cell, cell_of, cell_read}
+use Rattle.std.specs.Prelude.{Some, None}
+use Rattle.fields.specs.Outcomes.{Cell}
 
 abbrev every : List Bool → Bool
 every [] = true
 every (b ∷ bs) = b && every bs
 
 abbrev told : Cell → ℕ → Bool
-told Malformed b = false
-told (Of x) b = eqb (to_bits binary64 x) b
+told None b = false
+told (Some x) b = eqb (to_bits binary64 x) b
 
 abbrev refused : Cell → Bool
-refused Malformed = true
-refused (Of x) = false
+refused None = true
+refused (Some x) = false
 
 abbrev is : String → ℕ → Bool
 is s b = told (cell_read (bytes s)) b

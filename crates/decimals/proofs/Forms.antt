@@ -10,10 +10,10 @@ use lib.ListN.{length, drop, get_or}
 use lib.Ieee.{Float}
 use Rattle.fields.specs.Split.{onto, split, all}
 use Rattle.fields.specs.Numerals.{digit, in_base, is_bits, double_of}
-use Rattle.fields.specs.declared.Cell.TheVariants.{Malformed, Of}
 use Rattle.fields.proofs.Every.{both_left, both_right}
 use Rattle.decimals.specs.Decimal.{signed, bare, front, back, points, shaped, is_bare, is_decimal, decimal_of, is_cell, cell_of, cell_read}
 use Rattle.decimals.proofs.Reading.{shaped_sum}
+use Rattle.std.specs.Prelude.{Some, None}
 
 -- a hex digit is no byte d that is none
 other : (d b : ℕ) → in_base 16 d ≡ false → in_base 16 b ≡ true → eqb b d ≡ false
@@ -58,17 +58,17 @@ pub bits_cell : (w : List ℕ) → is_bits w ≡ true → (is_cell w ≡ true) �
 unfolding is_cell cell_of
 bits_cell w e = (rw e, rw e)
 
-cell_meant : (w : List ℕ) (x : Float) → (is_cell w ≡ true) × (cell_of w ≡ x) → cell_read w ≡ Of x
+cell_meant : (w : List ℕ) (x : Float) → (is_cell w ≡ true) × (cell_of w ≡ x) → cell_read w ≡ Some x
 unfolding cell_read
 cell_meant w x p = rw (p.0, p.1)
 
-pub decimal_meant : (w : List ℕ) → is_decimal w ≡ true → cell_read w ≡ Of (decimal_of w)
+pub decimal_meant : (w : List ℕ) → is_decimal w ≡ true → cell_read w ≡ Some (decimal_of w)
 decimal_meant w d = cell_meant w (decimal_of w) (decimal_cell w d)
 
-pub bits_meant : (w : List ℕ) → is_bits w ≡ true → cell_read w ≡ Of (double_of w)
+pub bits_meant : (w : List ℕ) → is_bits w ≡ true → cell_read w ≡ Some (double_of w)
 bits_meant w e = cell_meant w (double_of w) (bits_cell w e)
 
-pub neither_refused : (w : List ℕ) → is_bits w ≡ false → is_decimal w ≡ false → cell_read w ≡ Malformed
+pub neither_refused : (w : List ℕ) → is_bits w ≡ false → is_decimal w ≡ false → cell_read w ≡ None
 unfolding cell_read is_cell
 neither_refused w e f = rw (e, f)
 

@@ -8,10 +8,10 @@ use Rattle.refusal.specs.Table.{first}
 use Rattle.refusal.specs.Telling.{tells}
 use Rattle.refusal.specs.declared.Refusal.TheVariants.{MalformedText}
 use Rattle.fields.specs.Numerals.{cell_tells}
-use Rattle.fields.specs.declared.Cell.TheVariants.{Malformed, Of}
 use Rattle.decimals.specs.Decimal.{is_decimal, decimal_of, decimal_read, decimal_outcome, is_cell, cell_of, cell_read, cell_outcome}
+use Rattle.std.specs.Prelude.{Some, None}
 
-told : (x : Float) (b : Bool) → cell_tells (cond b (Of x) Malformed) ≡ tells (first ((not b, MalformedText) ∷ [])) x
+told : (x : Float) (b : Bool) → cell_tells (cond b (Some x) None) ≡ tells (first ((not b, MalformedText) ∷ [])) x
 unfolding first
 told x true = refl
 told x false = refl

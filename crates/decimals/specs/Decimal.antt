@@ -1,14 +1,12 @@
 -- Document 02, request 8: ordinary decimals in cells. Definitions only.
-use Rattle.std.specs.Prelude.{ℕ, ◌+◌, ◌-◌, ◌^◌, Bool, not, cond, ◌&&◌, ◌||◌, List, [], ◌∷◌, ◌++◌, leb, eqb, pos, length, drop, get_or, Float}
+use Rattle.std.specs.Prelude.{ℕ, ◌+◌, ◌-◌, ◌^◌, Bool, not, cond, ◌&&◌, ◌||◌, List, [], ◌∷◌, ◌++◌, leb, eqb, pos, length, drop, get_or, Float, Some, None}
 use Rattle.std.specs.Float.{binary64}
 use Rattle.std.specs.Float.Ieee.{neg, div, of_int}
-use Rattle.refusal.specs.Table.{first}
+use Rattle.refusal.specs.Table.{first, Outcome}
 use Rattle.refusal.specs.declared.Refusal.TheVariants.{MalformedText}
-use Rattle.refusal.specs.declared.Outcome.{Outcome}
 use Rattle.fields.specs.Split.{split, piece, all}
 use Rattle.fields.specs.Numerals.{in_base, number, is_bits, double_of}
-use Rattle.fields.specs.declared.Cell.{Cell}
-use Rattle.fields.specs.declared.Cell.TheVariants.{Malformed, Of}
+use Rattle.fields.specs.Outcomes.{Cell}
 
 -- "an optional minus"
 unfoldable pub signed : List ℕ → Bool
@@ -65,7 +63,7 @@ decimal_of w = signed_by (signed w) (over_tens (digits_of (bare w)) (places_of (
 
 unfoldable pub decimal_read : List ℕ → Cell
 unfolding is_decimal decimal_of
-decimal_read w = cond (is_decimal w) (Of (decimal_of w)) Malformed
+decimal_read w = cond (is_decimal w) (Some (decimal_of w)) None
 
 -- "A cell may also be an optional minus, digits, ..": it has one form or the other
 unfoldable pub is_cell : List ℕ → Bool
@@ -79,7 +77,7 @@ cell_of w = cond (is_bits w) (double_of w) (decimal_of w)
 
 unfoldable pub cell_read : List ℕ → Cell
 unfolding is_cell cell_of
-cell_read w = cond (is_cell w) (Of (cell_of w)) Malformed
+cell_read w = cond (is_cell w) (Some (cell_of w)) None
 
 -- ---- what the answers tell: "15 for other forms"
 

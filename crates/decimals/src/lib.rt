@@ -1,32 +1,29 @@
 // Cells that are ordinary decimals, or 16 hex digits. Every public function is total.
 #![tactic(auto)]
 
-ghost use Rattle.std.specs.Prelude.{◌≡◌, ◌-◌, ◌^◌, ◌≤◌, ◌<◌, length};
-ghost use Rattle.fields.specs.Inner.{spelled_after};
+ghost use Rattle.std.specs.Prelude.{◌≡◌, ◌+◌, ◌-◌, ◌*◌, ◌^◌, ◌≤◌, ◌<◌, length};
 ghost use Rattle.decimals.specs.Decimal.{over_tens, signed_by, decimal_read, cell_read};
 ghost use Rattle.decimals.specs.Inner.{fraction_read, bare_read};
+ghost use Rattle.fields.specs.Inner.{spelled_after};
 ghost use Rattle.decimals.specs.Decimal.{signed as signed_of, bare as bare_of, shaped as shaped_of};
 
-use fields::{Cell, Numeral};
-
 // Whether the first byte is a minus.
+#[tactic(auto, using(crate::proofs::Reading::signed_front, crate::proofs::Reading::signed_other, crate::proofs::Reading::signed_none))]
 fn signed(w: &[u8]) -> bool
     ensures { result ≡ signed_of w.now }
 {
-    if w.len() < 1 {
-        return false;
-    }
-    w[0] == 45
+    matches!(w, [b'-', ..])
 }
 
 // What stands after the minus, or all of it.
+#[tactic(auto, using(crate::proofs::Reading::bare_front, crate::proofs::Reading::bare_other, crate::proofs::Reading::bare_empty))]
 fn bare(w: &[u8]) -> &[u8]
     ensures { result.now ≡ bare_of w.now }
 {
-    if signed(w) {
-        return &w[1..];
+    match w {
+        [b'-', size @ ..] => size,
+        _ => w,
     }
-    &w[0..]
 }
 
 // Whether so many points, bytes before and bytes after are a decimal's.
@@ -34,63 +31,37 @@ fn bare(w: &[u8]) -> &[u8]
 fn shaped(points: usize, before: usize, after: usize) -> bool
     ensures { result ≡ shaped_of points before after }
 {
-    if 1 < points {
-        return false;
-    }
-    if before < 1 {
-        return false;
-    }
-    if after < points {
-        return false;
-    }
-    if 15 < before {
-        return false;
-    }
-    after <= 15 - before
+    points <= 1 && 1 <= before && points <= after && before <= 15 && after <= 15 - before
 }
 
-// The number that digits spell after digits worth n, each looked at as it is added.
-fn digits(w: &[u8], n: usize) -> Numeral
-    requires w_len_bound { length w.now ≤ 15 }
-    requires n_bound { n < 10 ^ (15 - length w.now) }
+// The number that digits spell after digits worth n, each looked at as it is added. (What `fields` has for its own numbers is private: no
+// public function has a `requires`.)
+fn digits(w: &[u8], n: usize) -> Option<usize>
+    requires { (n + 1) * 10 ^ length w.now ≤ 2 ^ 64 }
     ensures { result ≡ spelled_after 10 n w.now }
 {
     let mut m = n;
-    let mut i = 0;
-    while i < w.len() {
-        let v = fields::digit(w[i]);
+    for b in w {
+        let v = fields::digit(*b);
         if 10 <= v {
-            return Numeral::Malformed;
+            return None;
         }
         m = m * 10 + v;
-        i += 1;
     }
-    Numeral::Of(m)
-}
-
-// 10^k.
-fn power(k: usize) -> usize
-    requires { k ≤ 15 }
-    ensures { result ≡ 10 ^ k }
-{
-    let mut p: usize = 1;
-    let mut i = 0;
-    while i < k {
-        p *= 10;
-        i += 1;
-    }
-    p
+    Some(m)
 }
 
 // n / 10^k: both are doubles, so that only the division rounds.
+#[tactic(auto, unfolding(crate::specs::Decimal::over_tens, arithmetic::specs::Arithmetic::count_of))]
 fn over_tens(n: usize, k: usize) -> f64
     requires { k ≤ 15 }
     ensures { result ≡ over_tens n k }
 {
-    arithmetic::count(n) / arithmetic::count(power(k))
+    arithmetic::count(n) / arithmetic::count(10_usize.pow(k as u32))
 }
 
 // x with the minus, if there is one.
+#[tactic(auto, unfolding(crate::specs::Decimal::signed_by))]
 fn signed_by(minus: bool, x: f64) -> f64
     ensures { result ≡ signed_by minus x }
 {
@@ -98,52 +69,42 @@ fn signed_by(minus: bool, x: f64) -> f64
 }
 
 // The digits after the point, after those before it, which are worth n.
-fn fraction(w: &[u8], n: usize) -> Cell
+#[tactic(auto, using(crate::proofs::Reading::room_for, crate::proofs::Reading::fraction_none, crate::proofs::Reading::fraction_some))]
+fn fraction(w: &[u8], n: usize) -> Option<f64>
     requires w_len_bound { length w.now ≤ 15 }
     requires n_bound { n < 10 ^ (15 - length w.now) }
     ensures { result ≡ fraction_read n w.now }
 {
-    let all = digits(w, n);
-    match all {
-        Numeral::Malformed => Cell::Malformed,
-        Numeral::Of(m) => Cell::Of(over_tens(m, w.len())),
-    }
+    let m = digits(w, n)?;
+    Some(over_tens(m, w.len()))
 }
 
 // A decimal without its minus.
-fn read_bare(w: &[u8]) -> Cell
+fn read_bare(w: &[u8]) -> Option<f64>
     ensures { result ≡ bare_read w.now }
 {
-    let front = fields::piece(w, 46, 0);
-    let back = fields::piece(w, 46, 1);
-    if !shaped(fields::count(w, 46), front.len(), back.len()) {
-        return Cell::Malformed;
+    let front = fields::piece(w, b'.', 0);
+    let back = fields::piece(w, b'.', 1);
+    if !shaped(fields::count(w, b'.'), front.len(), back.len()) {
+        return None;
     }
-    let whole = digits(front, 0);
-    match whole {
-        Numeral::Malformed => Cell::Malformed,
-        Numeral::Of(n) => fraction(back, n),
-    }
+    let n = digits(front, 0)?;
+    fraction(back, n)
 }
 
 // A decimal: the double nearest to it.
-pub fn read_decimal(w: &[u8]) -> Cell
+#[tactic(auto, using(crate::proofs::Reading::decimal_none, crate::proofs::Reading::decimal_some))]
+pub fn read_decimal(w: &[u8]) -> Option<f64>
     ensures { result ≡ decimal_read w.now }
 {
-    let size = read_bare(bare(w));
-    match size {
-        Cell::Malformed => Cell::Malformed,
-        Cell::Of(x) => Cell::Of(signed_by(signed(w), x)),
-    }
+    let size = read_bare(bare(w))?;
+    Some(signed_by(signed(w), size))
 }
 
 // A cell in either form: 16 lower-case hex digits, or a decimal.
-pub fn read_cell(w: &[u8]) -> Cell
+#[tactic(auto, using(crate::proofs::Reading::cell_other, crate::proofs::Reading::cell_bits))]
+pub fn read_cell(w: &[u8]) -> Option<f64>
     ensures { result ≡ cell_read w.now }
 {
-    let hex = fields::read_bits(w);
-    match hex {
-        Cell::Malformed => read_decimal(w),
-        Cell::Of(x) => Cell::Of(x),
-    }
+    fields::read_bits(w).or_else(|| read_decimal(w))
 }

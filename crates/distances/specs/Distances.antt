@@ -5,11 +5,9 @@ use Rattle.std.specs.Float.Ieee.{neg, sub, mul, div}
 use Rattle.arithmetic.specs.Constants.{pz, unit, two}
 use Rattle.arithmetic.specs.Arithmetic.{max_of, clamp_of}
 use Rattle.arithmetic.specs.Root.{root}
-use Rattle.refusal.specs.Table.{first}
-use Rattle.refusal.specs.declared.Outcome.{Outcome}
+use Rattle.refusal.specs.Table.{first, Outcome}
 use Rattle.lent.specs.Grid.{cell, grid, sum_to}
-use Rattle.lent.specs.Lent.{squares, laid, answer_of}
-use Rattle.lent.specs.declared.Answer.{Answer}
+use Rattle.lent.specs.Lent.{squares, laid, answer_of, Answer}
 use Rattle.distances.specs.declared.Measure.{Measure}
 use Rattle.distances.specs.declared.Measure.TheVariants.{Hrp, Hcaa}
 

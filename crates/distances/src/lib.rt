@@ -7,8 +7,8 @@ ghost use Rattle.distances.specs.Distances.{distance_of, distance_cell, distance
 ghost use Rattle.lent.specs.Inner.{Held};
 ghost use Rattle.distances.specs.Inner.{Picked, sum_of, with_square};
 
-use lent::Answer;
-use refusal::Outcome;
+use lent::Size;
+use refusal::Refusal;
 
 // Which allocator's distance.
 #[derive(Clone, Copy)]
@@ -53,10 +53,8 @@ fn distance_cell(of: Measure, corr: &[f64], n: usize, i: usize, j: usize, done: 
     ensures { result ≡ distance_cell of corr.now n i j }
 {
     let x = at(corr, n, i, j);
-    if j < i {
-        if arithmetic::to_bits(x) == arithmetic::to_bits(at(corr, n, j, i)) {
-            return at(done, n, j, i);
-        }
+    if j < i && arithmetic::to_bits(x) == arithmetic::to_bits(at(corr, n, j, i)) {
+        return at(done, n, j, i);
     }
     distance(of, x)
 }
@@ -69,11 +67,9 @@ fn distance_row(of: Measure, corr: &[f64], n: usize, i: usize, out: &mut [f64])
     requires out_value { over (grid i n (distance_cell of corr.now n)) out.old ≡ out.old }
     ensures { out.new ≡ over (grid (i + 1) n (distance_cell of corr.now n)) out.old }
 {
-    let mut j = 0;
-    while j < n {
+    for j in 0..n {
         let v = arithmetic::settled(distance_cell(of, corr, n, i, j, &out[..]));
         put(out, n, i, j, v);
-        j += 1;
     }
 }
 
@@ -82,30 +78,30 @@ fn fill_distances(of: Measure, corr: &[f64], n: usize, out: &mut [f64])
     requires n_in_bounds { n * n ≤ length out.old }
     ensures { out.new ≡ over (grid n n (distance_cell of corr.now n)) out.old }
 {
-    let mut i = 0;
-    while i < n {
+    for i in 0..n {
         distance_row(of, corr, n, i, out);
-        i += 1;
     }
 }
 
+#[tactic(auto, using(lent::proofs::Sizes::squared_done, lent::proofs::Laws::over_replicate), unfolding(crate::specs::Distances::distance_outcome, crate::specs::Distances::distance_answer, crate::specs::Distances::distances, lent::specs::Lent::answer_of, lent::specs::Lent::laid))]
 pub fn corr_to_distances(
     of: Measure,
     corr: &[f64],
     rows: usize,
     columns: usize,
     out: &mut [f64],
-) -> Answer
+) -> Result<Size, Refusal>
     ensures value { result ≡ distance_answer corr.now rows columns (length out.old) }
     ensures out_after { out.new ≡ distances of corr.now rows columns (length out.old) }
 {
     let said = lent::squared(corr.len(), rows, columns, out.len());
     lent::clear(out);
-    let Outcome::Done = said else {
-        return lent::answered(said, columns, columns);
-    };
+    said?;
     fill_distances(of, corr, columns, out);
-    lent::answered(said, columns, columns)
+    Ok(Size {
+        rows: columns,
+        columns,
+    })
 }
 
 // Cell (k, i), the diagonal taken as 0.
@@ -128,11 +124,9 @@ fn add_squares(d: &[f64], n: usize, i: usize, k: usize, x: f64, sums: &mut [f64;
     requires held { Held sums.old (i + 1) n (sum_of d.now n i k) }
     ensures { Held sums.new (i + 1) n (with_square d.now n i k x) }
 {
-    let mut j = i + 1;
-    while j < n {
+    for j in i + 1..n {
         let y = x - at(d, n, k, j);
         sums[j] = sums[j] + y * y;
-        j += 1;
     }
 }
 
@@ -162,10 +156,8 @@ fn sums_of(d: &[f64], n: usize, i: usize) -> [f64; 64]
     ensures { Held result (i + 1) n (sum_of d.now n i n) }
 {
     let mut sums = [0.0; 64];
-    let mut k = 0;
-    while k < n {
+    for k in 0..n {
         add_row(d, n, i, k, &mut sums);
-        k += 1;
     }
     sums
 }
@@ -198,11 +190,9 @@ fn fill_row(d: &[f64], n: usize, i: usize, out: &mut [f64])
     ensures { out.new ≡ over (grid (i + 1) n (between_cell d.now n)) out.old }
 {
     let sums = sums_of(d, n, i);
-    let mut j = 0;
-    while j < n {
+    for j in 0..n {
         let v = arithmetic::settled(between_cell(&sums, n, i, j, &out[..]));
         put(out, n, i, j, v);
-        j += 1;
     }
 }
 
@@ -212,22 +202,27 @@ fn fill_betweens(d: &[f64], n: usize, out: &mut [f64])
     requires n_in_bounds { n * n ≤ length out.old }
     ensures { out.new ≡ over (grid n n (between_cell d.now n)) out.old }
 {
-    let mut i = 0;
-    while i < n {
+    for i in 0..n {
         fill_row(d, n, i, out);
-        i += 1;
     }
 }
 
-pub fn distance_of_distances(d: &[f64], rows: usize, columns: usize, out: &mut [f64]) -> Answer
+#[tactic(auto, using(lent::proofs::Sizes::squared_done, lent::proofs::Laws::over_replicate), unfolding(crate::specs::Distances::distance_outcome, crate::specs::Distances::distance_answer, crate::specs::Distances::betweens, lent::specs::Lent::answer_of, lent::specs::Lent::laid))]
+pub fn distance_of_distances(
+    d: &[f64],
+    rows: usize,
+    columns: usize,
+    out: &mut [f64],
+) -> Result<Size, Refusal>
     ensures value { result ≡ distance_answer d.now rows columns (length out.old) }
     ensures out_after { out.new ≡ betweens d.now rows columns (length out.old) }
 {
     let said = lent::squared(d.len(), rows, columns, out.len());
     lent::clear(out);
-    let Outcome::Done = said else {
-        return lent::answered(said, columns, columns);
-    };
+    said?;
     fill_betweens(d, columns, out);
-    lent::answered(said, columns, columns)
+    Ok(Size {
+        rows: columns,
+        columns,
+    })
 }

@@ -28,17 +28,16 @@ use Rattle.tree.specs.Tree.{Tree, leaf, fork, leaves}
 use Rattle.clusters.specs.Clusters.{variance_answer}
 use Rattle.clusters.specs.Shares.{Shares, some, with_shares, weights_in}
 use Rattle.clusters.specs.Shares as shares
-use Rattle.clusters.specs.declared.Risk.{Risk}
-use Rattle.clusters.specs.declared.Risk.TheVariants as risk
 use Rattle.metrics.specs.declared.Metric.TheVariants.{EqualWeighting}
 use Rattle.metrics.specs.declared.Split.{Split}
-use Rattle.metrics.specs.declared.Splitting.{Splitting}
-use Rattle.metrics.specs.declared.Splitting.TheVariants as splitting
 use Rattle.sharing.specs.Split.{Inputs, bounded, split_by, scored, split_of_both, split_of}
 use Rattle.sharing.specs.Allot.{splits, spread_of, equal_of, inside_of, onward, allotted}
 use Rattle.equal.specs.Clusters.{Cluster, cut}
 use Rattle.equal.specs.Equal.{weight, portion}
 use Rattle.equal.proofs.Cut.{Each, none, also, each_append, each_map, sides}
+use Rattle.std.specs.Prelude.{Ok, Err}
+use Rattle.clusters.specs.Outcomes.{Risk}
+use Rattle.metrics.specs.Outcomes.{Splitting}
 
 -- ---- what was accepted, taken apart
 
@@ -46,9 +45,9 @@ some_is : (ws out : List Float) → some ws ≡ some out → out ≡ ws
 unfolding weights_in
 some_is ws out e = sym (ap weights_in e)
 
-split_some : (x : Splitting) (g : Split → Shares) (out : List Float) → onward x g ≡ some out → (s : Split) × (x ≡ splitting.By s) × (g s ≡ some out)
-split_some (splitting.Refused r) g out e = absurd (let z : ◌≡◌ {A = ℕ} 0 1 = cc in omega arith)
-split_some (splitting.By s) g out e = (s, refl, e)
+split_some : (x : Splitting) (g : Split → Shares) (out : List Float) → onward x g ≡ some out → (s : Split) × (x ≡ Ok s) × (g s ≡ some out)
+split_some (Err r) g out e = absurd (let z : ◌≡◌ {A = ℕ} 0 1 = cc in omega arith)
+split_some (Ok s) g out e = (s, refl, e)
 
 then_some : (x : Shares) (g : List Float → Shares) (out : List Float) → with_shares x g ≡ some out → (mid : List Float) × (x ≡ some mid) × (g mid ≡ some out)
 then_some shares.none g out e = absurd (let z : ◌≡◌ {A = ℕ} 0 1 = cc in omega arith)
@@ -57,15 +56,15 @@ then_some (some mid) g out e = (mid, refl, e)
 -- ---- equal weighting's factor is a half
 
 abbrev factor_in : Splitting → Float
-factor_in (splitting.Refused r) = half
-factor_in (splitting.By s) = s.factor
+factor_in (Err r) = half
+factor_in (Ok s) = s.factor
 
 all_same : (v u : Risk) (f : Float → Float → Split) → ((a b : Float) → (f a b).factor ≡ half) → factor_in (split_of_both v u f) ≡ half
-all_same (risk.Refused r) u f h = refl
-all_same (risk.Of a) (risk.Refused r) f h = refl
-all_same (risk.Of a) (risk.Of b) f h = h a b
+all_same (Err r) u f h = refl
+all_same (Ok a) (Err r) f h = refl
+all_same (Ok a) (Ok b) f h = h a b
 
-halved : (x : Inputs) (cov : List Float) (n : ℕ) (a b : List ℕ) (s : Split) → split_of EqualWeighting x cov n a b ≡ splitting.By s → s.factor ≡ half
+halved : (x : Inputs) (cov : List Float) (n : ℕ) (a b : List ℕ) (s : Split) → split_of EqualWeighting x cov n a b ≡ Ok s → s.factor ≡ half
 unfolding split_of scored split_by bounded clamp_of finite_of lt of_bits
 halved x cov n a b s e =
     sym (ap factor_in e) ∙ all_same (variance_answer cov n n a) (variance_answer cov n n b) (scored EqualWeighting x cov n a b) (λ l r. refl)

@@ -5,7 +5,6 @@ use mathlib.Core.Bool.{true}
 use mathlib.Core.List.{List}
 use Prim.Native.Nat.{ℕ, ◌≤◌}
 use lib.Ieee.{Float}
-use Rattle.refusal.specs.declared.Outcome.TheVariants.{Done}
 use Rattle.tree.specs.Rows.{is_tree}
 use Rattle.clusters.specs.Shares.{some, weights_in}
 use Rattle.metrics.specs.declared.Metric.{Metric}
@@ -16,13 +15,14 @@ use Rattle.sharing.specs.Down.{DownCall, down_outcome}
 use Rattle.sharing.proofs.Judged.{down_accepted}
 use Rattle.equal.specs.Equal.{EqualShares}
 use Rattle.equal.proofs.Equal.{equal_shares}
+use Rattle.std.specs.Prelude.{Ok}
 
 pub equal_shared : (x : Inputs) (cov : List Float) (n k : ℕ) (rows : List ℕ) → 1 ≤ n → n ≤ 64 → is_tree rows n ≡ true → 1 ≤ k → k ≤ n
     → (ws : List Float) → down_shares EqualWeighting x cov rows n k ≡ some ws → EqualShares n k rows ws
 equal_shared x cov n k rows some_asset limit tree least cut ws e = equal_shares x cov n k rows some_asset limit tree least cut ws e
 
 -- the weights that the call leaves at the front of its buffer
-pub equal_call : (q : DownCall) (room scratch : ℕ) → q.metric ≡ EqualWeighting → down_outcome q room scratch ≡ Done
+pub equal_call : (q : DownCall) (room scratch : ℕ) → q.metric ≡ EqualWeighting → down_outcome q room scratch ≡ Ok tt
     → EqualShares q.assets q.clusters q.rows (weights_in (down_shares q.metric q.inputs q.covariance q.rows q.assets q.clusters))
 equal_call q room scratch m e =
     let a = down_accepted q room scratch e in

@@ -7,6 +7,7 @@ use native.Mathlib.Numerals.{add-one}
 use native.Mathlib.Omega.{arith}
 use lib.ListN.{length, get_or, drop, drop_of_length-le}
 use lib.Seq.{drop-cons}
+use Rattle.std.specs.List.{list_all}
 use Rattle.fields.specs.Split.{all}
 
 -- ---- tests in a row that are true: each is
@@ -28,6 +29,12 @@ four_yes a b d f e = let g = three_yes b d f (both_right a (b && (d && f)) e) in
 -- ---- every entry from place i on
 
 module _ {A : Type 0} (f : A → Bool) where
+  -- what std's `all` answers
+  pub all_list : (l : List A) → list_all f l ≡ all f l
+  unfolding all
+  all_list [] = refl
+  all_list (a ∷ l) = ap (λ (t : Bool). f a && t) (all_list l)
+
   pub all_end : (l : List A) (i : ℕ) → length l ≤ i → all f (drop i l) ≡ true
   unfolding all
   all_end l i h = rw (drop_of_length-le l h)

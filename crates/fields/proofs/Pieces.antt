@@ -1,5 +1,5 @@
 -- Lists of bytes cut at a byte: the laws that the loops over bytes and over pieces need. Assumes nothing.
-use Prim.Native.Nat.{ℕ, zero, suc, ◌+◌, ◌-◌, ◌<◌, ◌≤◌}
+use Prim.Native.Nat.{ℕ, zero, suc, ◌+◌, ◌-◌, ◌<◌, ◌≤◌, max}
 use mathlib.Core.Path.{◌≡◌, refl, sym, ap, ◌∙◌}
 use mathlib.Core.Bool.{Bool, true, false, cond}
 use mathlib.Core.List.{List, [], ◌∷◌}
@@ -11,6 +11,7 @@ use borrow.Author.Tests.{eq-eqb, ne_eqb}
 use lib.Dec.{eqb}
 use lib.ListN.{length, get_or, take, drop, length-drop, drop_of_length-le}
 use lib.Seq.{drop-cons, drop-drop, length-take-le}
+use Rattle.std.specs.List.{filter}
 use Rattle.fields.specs.Split.{onto, split, first_piece, piece, end_of}
 
 -- ---- the first piece
@@ -42,10 +43,6 @@ take_upto d (b ∷ s) = go (eqb b d) (take_upto d s)
     go false ih = ap (λ (l : List ℕ). b ∷ l) ih
 
 -- ---- the first piece, and the pieces after it
-
-split_here : (d b : ℕ) (s : List ℕ) → b ≡ d → split d (b ∷ s) ≡ [] ∷ split d s
-unfolding split
-split_here d b s e = simp (eq-eqb b d e)
 
 split_on : (d b : ℕ) (s : List ℕ) → (b ≡ d → ⊥) → split d (b ∷ s) ≡ onto b (split d s)
 unfolding split
@@ -121,10 +118,7 @@ module _ (d : ℕ) (s : List ℕ) (i : ℕ) where
   unfolding end_of first_piece
   end_past h = omega (arith, ap length (ap (first_piece d) (drop_of_length-le s h)))
 
-  -- ---- a count of d's, at place i
-
-  pub count_here : i < length s → get_or s i 0 ≡ d → length (split d (drop i s)) ≡ suc (length (split d (drop (i + 1) s)))
-  count_here h e = rw add-one (ap length (ap (split d) (drop-cons s i 0 h) ∙ split_here d (get_or s i 0) (drop (suc i) s) e))
+  -- ---- the pieces from place i on
 
   pub count_on : i < length s → (get_or s i 0 ≡ d → ⊥) → length (split d (drop i s)) ≡ length (split d (drop (i + 1) s))
   count_on h e = rw add-one (ap length (ap (split d) (drop-cons s i 0 h) ∙ split_on d (get_or s i 0) (drop (suc i) s) e) ∙ length_onto (get_or s i 0) (split d (drop (suc i) s)))
@@ -132,6 +126,25 @@ module _ (d : ℕ) (s : List ℕ) (i : ℕ) where
   pub count_end : length s ≤ i → length (split d (drop i s)) ≡ 1
   unfolding split
   count_end h = ap length (ap (split d) (drop_of_length-le s h))
+
+-- a scan from place `from` that found no d before place i, where it ended: the answer is the greater of `from` and the end
+pub end_none : (d : ℕ) (s : List ℕ) (from i : ℕ) → end_of d s from ≡ end_of d s i → length s ≤ i → (from ≤ length s → i ≤ length s) → max from (length s) ≡ end_of d s from
+end_none d s from i e l b = go (dec_le (length s) from)
+  where
+    go : Dec (length s ≤ from) → max from (length s) ≡ end_of d s from
+    go (yes g) = omega (arith, end_past d s from g)
+    go (no g) = omega (arith, e, end_past d s i l)
+
+-- the d's among the bytes are one fewer than the pieces
+pub split_count : (d : ℕ) (s : List ℕ) → length (filter (λ (b : ℕ). eqb b d) s) ≡ length (split d s) - 1
+unfolding split
+split_count d [] = refl
+split_count d (b ∷ s) = go (eqb b d) (split_count d s) (pieces d s)
+  where
+    go : (t : Bool) → length (filter (λ (x : ℕ). eqb x d) s) ≡ length (split d s) - 1 → 1 ≤ length (split d s)
+        → length (cond t (b ∷ filter (λ (x : ℕ). eqb x d) s) (filter (λ (x : ℕ). eqb x d) s)) ≡ length (cond t ([] ∷ split d s) (onto b (split d s))) - 1
+    go true e h = omega arith
+    go false e h = omega (arith, length_onto b (split d s))
 
 -- ---- pieces, from a place where one begins
 

@@ -1,3 +1,4 @@
+pub mod Outcomes
 pub mod Split
 pub mod Numerals
 pub mod Inner

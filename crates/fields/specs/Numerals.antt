@@ -1,16 +1,12 @@
 -- Numerals in bases 10 and 16. Definitions only.
-use Rattle.std.specs.Prelude.{ℕ, ◌+◌, ◌*◌, ◌-◌, Bool, not, cond, ◌&&◌, List, [], ◌∷◌, leb, ltb, eqb, length, Float}
+use Rattle.std.specs.Prelude.{ℕ, ◌+◌, ◌*◌, ◌-◌, Bool, not, cond, ◌&&◌, List, [], ◌∷◌, leb, ltb, eqb, length, Float, Some, None}
 use Rattle.std.specs.Float.{binary64}
 use Rattle.std.specs.Float.Ieee.{of_bits}
-use Rattle.refusal.specs.Table.{first}
+use Rattle.refusal.specs.Table.{first, Outcome}
 use Rattle.refusal.specs.Telling.{Telling, accepts, refuses}
 use Rattle.refusal.specs.declared.Refusal.TheVariants.{MalformedText}
-use Rattle.refusal.specs.declared.Outcome.{Outcome}
 use Rattle.fields.specs.Split.{all}
-use Rattle.fields.specs.declared.Cell.{Cell}
-use Rattle.fields.specs.declared.Cell.TheVariants as cell
-use Rattle.fields.specs.declared.Numeral.{Numeral}
-use Rattle.fields.specs.declared.Numeral.TheVariants as numeral
+use Rattle.fields.specs.Outcomes.{Cell, Numeral}
 
 -- what a digit is worth: 0 to 9, then a to f; 16 where the byte is no digit
 unfoldable pub digit : ℕ → ℕ
@@ -37,7 +33,7 @@ double_of w = of_bits binary64 (number 16 0 w)
 
 unfoldable pub bits_read : List ℕ → Cell
 unfolding is_bits number
-bits_read w = cond (is_bits w) (cell.Of (double_of w)) cell.Malformed
+bits_read w = cond (is_bits w) (Some (double_of w)) None
 
 -- "1 to 9 digits"
 unfoldable pub is_numeral : List ℕ → Bool
@@ -46,7 +42,7 @@ is_numeral w = leb 1 (length w) && (leb (length w) 9 && all (in_base 10) w)
 
 unfoldable pub numeral_read : List ℕ → Numeral
 unfolding is_numeral number
-numeral_read w = cond (is_numeral w) (numeral.Of (number 10 0 w)) numeral.Malformed
+numeral_read w = cond (is_numeral w) (Some (number 10 0 w)) None
 
 -- ---- what the answers tell: a field that is not 16 such digits, or no numeral, is in a "job text" that "is malformed" (15)
 
@@ -55,13 +51,13 @@ unfolding is_bits
 bits_outcome w = first ((not (is_bits w), MalformedText) ∷ [])
 
 abbrev pub cell_tells : Cell → Telling Float
-cell_tells (cell.Of x) = accepts x
-cell_tells cell.Malformed = refuses MalformedText
+cell_tells (Some x) = accepts x
+cell_tells None = refuses MalformedText
 
 unfoldable pub numeral_outcome : List ℕ → Outcome
 unfolding is_numeral
 numeral_outcome w = first ((not (is_numeral w), MalformedText) ∷ [])
 
 abbrev pub numeral_tells : Numeral → Telling ℕ
-numeral_tells (numeral.Of n) = accepts n
-numeral_tells numeral.Malformed = refuses MalformedText
+numeral_tells (Some n) = accepts n
+numeral_tells None = refuses MalformedText

@@ -1,41 +1,36 @@
 -- The C interface: what a call hands in as numbers, flags, names and sizes, and what it is refused for before the call behind it is made. Definitions only.
-use Rattle.std.specs.Prelude.{ℕ, ◌-◌, ◌*◌, cond, List, [], ◌∷◌, ◌++◌, ltb, length}
-use Rattle.refusal.specs.Table.{Line}
+use Rattle.std.specs.Prelude.{ℕ, ◌-◌, ◌*◌, cond, List, [], ◌∷◌, ◌++◌, ltb, length, Ok, Err}
+use Rattle.refusal.specs.Table.{Line, Outcome}
 use Rattle.refusal.specs.Telling.{outcome_tells}
 use Rattle.refusal.specs.declared.Refusal.TheVariants.{OverLimit, ShortBuffer}
-use Rattle.refusal.specs.declared.Outcome.{Outcome}
-use Rattle.refusal.specs.declared.Outcome.TheVariants as outcome
 use Rattle.lent.specs.Grid.{noughts}
 use Rattle.lent.specs.Lent.{most_assets, sizes}
 use Rattle.linkage.specs.declared.Distance.{Distance}
 use Rattle.linkage.specs.declared.Distance.TheVariants.{Correlation}
 use Rattle.linkage.specs.declared.Linkage.{Linkage}
 use Rattle.linkage.specs.declared.Linkage.TheVariants.{Single}
-use Rattle.linkage.specs.declared.NamedDistance.{NamedDistance}
-use Rattle.linkage.specs.declared.NamedDistance.TheVariants as distance
-use Rattle.linkage.specs.declared.NamedLinkage.{NamedLinkage}
-use Rattle.linkage.specs.declared.NamedLinkage.TheVariants as linkage
 use Rattle.reading.specs.Reading.{most_bytes}
+use Rattle.linkage.specs.Outcomes.{NamedDistance, NamedLinkage}
 
 -- ---- names: "unknown distance, unknown linkage name (any case)"
 
 -- one that was read: done, or its refusal
 unfoldable pub distance_says : NamedDistance → Outcome
-distance_says (distance.Of d) = outcome.Done
-distance_says (distance.Refused r) = outcome.Refused r
+distance_says (Ok d) = Ok tt
+distance_says (Err r) = Err r
 
 unfoldable pub linkage_says : NamedLinkage → Outcome
-linkage_says (linkage.Of l) = outcome.Done
-linkage_says (linkage.Refused r) = outcome.Refused r
+linkage_says (Ok l) = Ok tt
+linkage_says (Err r) = Err r
 
 -- and what it names; one that is refused stands for the first of them, and every buffer of its call is zero
 unfoldable pub distance_meant : NamedDistance → Distance
-distance_meant (distance.Of d) = d
-distance_meant (distance.Refused r) = Correlation
+distance_meant (Ok d) = d
+distance_meant (Err r) = Correlation
 
 unfoldable pub linkage_meant : NamedLinkage → Linkage
-linkage_meant (linkage.Of l) = l
-linkage_meant (linkage.Refused r) = Single
+linkage_meant (Ok l) = l
+linkage_meant (Err r) = Single
 
 -- ---- refusal 6's two values
 

@@ -8,9 +8,12 @@ use native.Mathlib.Omega.{arith}
 use borrow.Author.Tests.{ltb-true, ltb-false, lt-ltb, le-ltb, eq-eqb, ne_eqb}
 use lib.Dec.{ltb, eqb}
 use lib.Pow.{pow_pos, pow_mono, pow-add}
-use Rattle.lent.proofs.Laws.{either}
+use Rattle.std.proofs.lemmas.Bool.Decides.{nat_tests}
+use Rattle.std.specs.Ordering.{partial_lt}
+use Rattle.lent.proofs.Laws.{either, same_or_not}
 use Rattle.fractions.specs.Inner.{value_of, Normal}
 use Rattle.fractions.specs.declared.Fraction.{Fraction}
+use Rattle.fractions.specs.contracts.FractionPartialOrd.TheImpl.{partial_cmp-value}
 
 -- a has at most 73 digits, b 73, and b's place is higher
 place_less : (a b p q : ℕ) → a < 2 ^ 73 → 2 ^ 72 ≤ b → p < q → a * 2 ^ p < b * 2 ^ q
@@ -52,22 +55,43 @@ said_smaller a b lower h = sym (ap (λ (t : Bool). t || (eqb b a && lower)) (le-
 said_equal : (a b : ℕ) (lower : Bool) → a ≡ b → lower ≡ (ltb a b || (eqb b a && lower))
 said_equal a b lower h = sym (ap (λ (t : Bool). t || (eqb b a && lower)) (le-ltb a b (omega arith)) ∙ ap (λ (t : Bool). t && lower) (eq-eqb b a (sym h)))
 
+-- which of the tests decides
+only_top : (a b d e : ℕ) (lower : Bool) → (a ≡ b → ⊥) → ((ltb b a || (eqb b a && ltb e d)) || ((eqb a b && eqb d e) && lower)) ≡ ltb b a
+only_top a b d e lower h = grind (arith, nat_tests)
+
+only_low : (a b d e : ℕ) (lower : Bool) → a ≡ b → (d ≡ e → ⊥) → ((ltb b a || (eqb b a && ltb e d)) || ((eqb a b && eqb d e) && lower)) ≡ ltb e d
+only_low a b d e lower h g = grind (arith, nat_tests)
+
+only_lower : (a b d e : ℕ) (lower : Bool) → a ≡ b → d ≡ e → ((ltb b a || (eqb b a && ltb e d)) || ((eqb a b && eqb d e) && lower)) ≡ lower
+only_lower a b d e lower h g = grind (arith, nat_tests)
+
 module _ (x y : Fraction) (lower : Bool) where
-  pub by_top : Normal x → Normal y → (x.top ≡ y.top → ⊥) → ltb y.top x.top ≡ (ltb (value_of y) (value_of x) || (eqb (value_of x) (value_of y) && lower))
+  by_top : Normal x → Normal y → (x.top ≡ y.top → ⊥) → ltb y.top x.top ≡ (ltb (value_of y) (value_of x) || (eqb (value_of x) (value_of y) && lower))
   by_top n m d =
       ⊎_elim
       (λ h. le-ltb y.top x.top (omega arith) ∙ said_smaller (value_of y) (value_of x) lower (top_less x y n m h))
       (λ h. lt-ltb y.top x.top h ∙ said_larger (value_of y) (value_of x) lower (top_less y x m n h))
       (apart x.top y.top d)
 
-  pub by_low : x.top ≡ y.top → (x.low ≡ y.low → ⊥) → ltb y.low x.low ≡ (ltb (value_of y) (value_of x) || (eqb (value_of x) (value_of y) && lower))
+  by_low : x.top ≡ y.top → (x.low ≡ y.low → ⊥) → ltb y.low x.low ≡ (ltb (value_of y) (value_of x) || (eqb (value_of x) (value_of y) && lower))
   by_low e d =
       ⊎_elim
       (λ h. le-ltb y.low x.low (omega arith) ∙ said_smaller (value_of y) (value_of x) lower (low_less x y e h))
       (λ h. lt-ltb y.low x.low h ∙ said_larger (value_of y) (value_of x) lower (low_less y x (sym e) h))
       (apart x.low y.low d)
 
-  pub by_number : x.top ≡ y.top → x.low ≡ y.low → lower ≡ (ltb (value_of y) (value_of x) || (eqb (value_of x) (value_of y) && lower))
+  by_number : x.top ≡ y.top → x.low ≡ y.low → lower ≡ (ltb (value_of y) (value_of x) || (eqb (value_of x) (value_of y) && lower))
   by_number e d =
       said_equal (value_of y) (value_of x) lower
       (ap (λ (t : ℕ). (t % 2 ^ 41 * 2 ^ 32 + y.low) * 2 ^ (t / 2 ^ 41)) (sym e) ∙ ap (λ (l : ℕ). (x.top % 2 ^ 41 * 2 ^ 32 + l) * 2 ^ (x.top / 2 ^ 41)) (sym d))
+
+  -- the derived `<` and `==` say the same
+  pub before : partial_lt partial_cmp-value.it y x ≡ (ltb y.top x.top || (eqb y.top x.top && ltb y.low x.low))
+  before = grind (arith, nat_tests)
+
+  pub said : Normal x → Normal y → ((ltb y.top x.top || (eqb y.top x.top && ltb y.low x.low)) || ((eqb x.top y.top && eqb x.low y.low) && lower)) ≡ (ltb (value_of y) (value_of x) || (eqb (value_of x) (value_of y) && lower))
+  said n m =
+      ⊎_elim
+      (λ t. ⊎_elim (λ l. only_lower x.top y.top x.low y.low lower t l ∙ by_number t l) (λ l. only_low x.top y.top x.low y.low lower t l ∙ by_low t l) (same_or_not x.low y.low))
+      (λ t. only_top x.top y.top x.low y.low lower t ∙ by_top n m t)
+      (same_or_not x.top y.top)

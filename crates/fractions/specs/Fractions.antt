@@ -3,9 +3,8 @@
 use Rattle.std.specs.Prelude.{ℕ, ◌*◌, ◌/◌, ◌%◌, ◌^◌, Bool, true, false, not, ◌&&◌, ◌||◌, List, [], ◌∷◌, eqb, leb, ltb, length, get_or, Float}
 use Rattle.std.specs.Float.{nan, inf, fin}
 use Rattle.arithmetic.specs.Exact.{units_of}
-use Rattle.refusal.specs.Table.{Line, first}
+use Rattle.refusal.specs.Table.{Line, first, Outcome}
 use Rattle.refusal.specs.declared.Refusal.TheVariants.{OverLimit, ShortBuffer, WeightOutOfRange}
-use Rattle.refusal.specs.declared.Outcome.{Outcome}
 use Rattle.lent.specs.Count.{one, upto}
 use Rattle.lent.specs.Grid.{tab}
 use Rattle.lent.specs.Lent.{most_assets, laid}

@@ -32,24 +32,24 @@ fraction top low = record { top = top; low = low }
 -- the whole part and the fraction left over of a weight
 pub record Exactly (p : Parts) (w : Float) : Type 0 where
   pub whole_is : p.whole ≡ whole_part w
-  pub left_is : Holds (fraction p.top p.low) (left_over w)
+  pub left_is : Holds p.left (left_over w)
 
--- fraction k of two arrays
-abbrev pub value_at : List ℕ → List ℕ → ℕ → ℕ
-value_at tops lows k = value_of (fraction (get_or tops k 0) (get_or lows k 0))
+-- fraction k of a list
+abbrev pub fraction_at : List Fraction → ℕ → Fraction
+fraction_at left k = get_or left k (fraction 0 0)
 
--- two arrays that hold the fractions of the first n weights
-pub record Keyed (ws : List Float) (n : ℕ) (tops lows : List ℕ) : Type 0 where
-  pub tops_wide : length tops ≡ 64
-  pub lows_wide : length lows ≡ 64
-  pub held : (k : ℕ) → k < n → Holds (fraction (get_or tops k 0) (get_or lows k 0)) (left_at ws k)
+abbrev pub value_at : List Fraction → ℕ → ℕ
+value_at left k = value_of (fraction_at left k)
 
--- two arrays that hold n fractions
-pub record AllKeyed (tops lows : List ℕ) (n : ℕ) : Type 0 where
-  pub few : n ≤ 64
-  pub tops_wide : length tops ≡ 64
-  pub lows_wide : length lows ≡ 64
-  pub normal : (k : ℕ) → k < n → Normal (fraction (get_or tops k 0) (get_or lows k 0))
+-- a list that holds the fractions of the first n weights
+pub record Keyed (ws : List Float) (n : ℕ) (left : List Fraction) : Type 0 where
+  pub same_length : length left ≡ length ws
+  pub held : (k : ℕ) → k < n → Holds (fraction_at left k) (left_at ws k)
+
+-- each of at most 64 fractions is in that form
+pub record AllKeyed (left : List Fraction) : Type 0 where
+  pub few : length left ≤ 64
+  pub normal : (k : ℕ) → k < length left → Normal (fraction_at left k)
 
 -- weights that are not refused
 pub record Fillable (ws : List Float) (wholes ranks : ℕ) : Type 0 where

@@ -8,7 +8,7 @@ ghost use Rattle.fields.specs.Split.{all};
 ghost use Rattle.fractions.specs.Fractions.{in_range, rank_of, wholes_in, ranks_in, fractions_outcome, wholes_laid, ranks_laid};
 ghost use Rattle.fractions.specs.Inner.{Worth, Exactly, value_of, Normal, Holds, value_at, Keyed, AllKeyed, Fillable};
 
-use refusal::{Outcome, Refusal};
+use refusal::Refusal;
 
 // m * 2^place units of 2^-1074.
 #[derive(Clone, Copy)]
@@ -18,7 +18,7 @@ struct Digits {
 }
 
 // A fraction left over: (high * 2^32 + low) * 2^place units of 2^-1074, where top is place * 2^41 + high. Two compare by top, then by low.
-#[derive(Clone, Copy)]
+#[derive(Clone, Copy, PartialEq, Eq, PartialOrd, Ord)]
 struct Fraction {
     top: u64,
     low: u64,
@@ -28,49 +28,32 @@ struct Fraction {
 #[derive(Clone, Copy)]
 struct Parts {
     whole: usize,
-    top: u64,
-    low: u64,
+    left: Fraction,
 }
 
 // A NaN's bits are above those of 1, and so are those of every weight below 0 and of −0.
+#[tactic(auto, using(crate::proofs::Pattern::range_zero, crate::proofs::Pattern::range_bits, arithmetic::proofs::Facts::truth))]
 fn in_range(w: f64) -> bool
     ensures { result ≡ in_range w }
 {
     let b = arithmetic::to_bits(w);
-    if b == 0x8000_0000_0000_0000 {
-        return true;
-    }
-    b <= 0x3ff0_0000_0000_0000
+    b == 0x8000_0000_0000_0000 || b <= 0x3ff0_0000_0000_0000
 }
 
 fn all_in_range(weights: &[f64]) -> bool
     ensures { result ≡ all in_range weights.now }
 {
-    let mut i = 0;
-    while i < weights.len() {
-        if !in_range(weights[i]) {
-            return false;
-        }
-        i += 1;
-    }
-    true
+    weights.iter().all(|w| in_range(*w))
 }
 
-fn judge(weights: &[f64], wholes: usize, ranks: usize) -> Outcome
+#[tactic(auto, unfolding(crate::specs::Fractions::fractions_outcome, crate::specs::Fractions::fractions_table, refusal::specs::Table::first, refusal::specs::Table::or_else))]
+fn judge(weights: &[f64], wholes: usize, ranks: usize) -> Result<(), Refusal>
     ensures { result ≡ fractions_outcome weights.now wholes ranks }
 {
     let n = weights.len();
-    let ranged = refusal::refuse(
-        !all_in_range(weights),
-        Refusal::WeightOutOfRange,
-        Outcome::Done,
-    );
-    let roomy = refusal::refuse(
-        refusal::either(wholes < n, ranks < n),
-        Refusal::ShortBuffer,
-        ranged,
-    );
-    refusal::refuse(lent::MOST_ASSETS < n, Refusal::OverLimit, roomy)
+    refusal::refuse(lent::MOST_ASSETS < n, Refusal::OverLimit)?;
+    refusal::refuse(wholes < n || ranks < n, Refusal::ShortBuffer)?;
+    refusal::refuse(!all_in_range(weights), Refusal::WeightOutOfRange)
 }
 
 // The digits of a double from 0 to 1, by its pattern.
@@ -123,18 +106,13 @@ fn normal(high0: u64, low0: u64, place0: u64) -> Fraction
     requires place0_bound { place0 ≤ 1022 }
     ensures { Holds result ((high0 * 2 ^ 32 + low0) * 2 ^ place0) }
 {
-    if high0 == 0 {
-        if low0 == 0 {
-            return Fraction { top: 0, low: 0 };
-        }
+    if high0 == 0 && low0 == 0 {
+        return Fraction { top: 0, low: 0 };
     }
     let mut high = high0;
     let mut low = low0;
     let mut place = place0;
-    while place > 0 {
-        if high >= 0x100_0000_0000 {
-            break;
-        }
+    while place > 0 && high < 0x100_0000_0000 {
         high = high * 2 + low * 2 / 0x1_0000_0000;
         low = low * 2 % 0x1_0000_0000;
         place -= 1;
@@ -154,11 +132,9 @@ fn parts_of(w: f64) -> Parts
     let x = scaled(d.m);
     let s = right_of_whole(d.place);
     let low = d.m % 0x1_0000_0000 * 1000000 % 0x1_0000_0000;
-    let left = normal(lowest(x, s), low, d.place);
     Parts {
         whole: (x >> s) as usize,
-        top: left.top,
-        low: left.low,
+        left: normal(lowest(x, s), low, d.place),
     }
 }
 
@@ -168,67 +144,46 @@ fn is_sooner(x: Fraction, y: Fraction, lower: bool) -> bool
     requires normal_2 { Normal y }
     ensures { result ≡ (ltb (value_of y) (value_of x) || (eqb (value_of x) (value_of y) && lower)) }
 {
-    if x.top != y.top {
-        return y.top < x.top;
-    }
-    if x.low != y.low {
-        return y.low < x.low;
-    }
-    lower
+    y < x || (x == y && lower)
 }
 
-// How many of n fractions come before fraction i.
-fn rank(tops: &[u64; 64], lows: &[u64; 64], n: usize, i: usize) -> usize
-    requires all_keyed { AllKeyed tops.now lows.now n }
-    requires i_lt_n { i < n }
-    ensures { result ≡ rank_of (value_at tops.now lows.now) n i }
+// How many of the fractions come before fraction i.
+fn rank(left: &[Fraction], i: usize) -> usize
+    requires all_keyed { AllKeyed left.now }
+    requires i_in_bounds { i < length left.now }
+    ensures { result ≡ rank_of (value_at left.now) (length left.now) i }
 {
-    let own = Fraction {
-        top: tops[i],
-        low: lows[i],
-    };
-    let mut k: usize = 0;
-    let mut j = 0;
-    while j < n {
-        let other = Fraction {
-            top: tops[j],
-            low: lows[j],
-        };
-        k += is_sooner(other, own, j < i) as usize;
-        j += 1;
+    let own = left[i];
+    let mut k = 0;
+    for (j, other) in left.iter().enumerate() {
+        k += usize::from(is_sooner(*other, own, j < i));
     }
     k
 }
 
-// The rank of each of n fractions.
-fn put_ranks(tops: &[u64; 64], lows: &[u64; 64], n: usize, ranks: &mut [usize])
-    requires all_keyed { AllKeyed tops.now lows.now n }
-    requires n_in_bounds { n ≤ length ranks.old }
-    ensures { ranks.new ≡ over (tab n (rank_of (value_at tops.now lows.now) n)) ranks.old }
+// The rank of each fraction.
+fn put_ranks(left: &[Fraction], ranks: &mut [usize])
+    requires all_keyed { AllKeyed left.now }
+    requires in_bounds { length left.now ≤ length ranks.old }
+    ensures { ranks.new ≡ over (tab (length left.now) (rank_of (value_at left.now) (length left.now))) ranks.old }
 {
-    let mut i = 0;
-    while i < n {
-        ranks[i] = rank(tops, lows, n, i);
-        i += 1;
+    for i in 0..left.len() {
+        ranks[i] = rank(left, i);
     }
 }
 
-// Each weight's whole part, and its fraction in the two arrays.
-fn measure(weights: &[f64], wholes: &mut [usize], tops: &mut [u64; 64], lows: &mut [u64; 64])
-    requires weights_len_bound { length weights.now ≤ 64 }
-    requires weights_in_bounds { length weights.now ≤ length wholes.old }
+// Each weight's whole part, and the fraction left over.
+fn measure(weights: &[f64], wholes: &mut [usize], left: &mut [Fraction])
     requires weights_value { all in_range weights.now ≡ true }
-    requires keyed { Keyed weights.now 0 tops.old lows.old }
+    requires in_bounds { length weights.now ≤ length wholes.old }
+    requires same_len { length left.old ≡ length weights.now }
     ensures wholes_after { wholes.new ≡ over (wholes_in weights.now) wholes.old }
-    ensures keyed_2 { Keyed weights.now (length weights.now) tops.new lows.new }
+    ensures keyed { Keyed weights.now (length weights.now) left.new }
 {
-    let mut i = 0;
-    while i < weights.len() {
-        let x = parts_of(weights[i]);
+    for (i, w) in weights.iter().enumerate() {
+        let x = parts_of(*w);
         wholes[i] = x.whole;
-        tops[i] = x.top;
-        lows[i] = x.low;
-        i += 1;
+        left[i] = x.left;
     }
 }
 
@@ -238,24 +193,26 @@ fn fill(weights: &[f64], wholes: &mut [usize], ranks: &mut [usize])
     ensures wholes_after { wholes.new ≡ over (wholes_in weights.now) wholes.old }
     ensures ranks_after { ranks.new ≡ over (ranks_in weights.now) ranks.old }
 {
-    let mut tops = [0u64; 64];
-    let mut lows = [0u64; 64];
-    measure(weights, wholes, &mut tops, &mut lows);
-    put_ranks(&tops, &lows, weights.len(), ranks);
+    let mut room = [Fraction { top: 0, low: 0 }; 64];
+    let left = &mut room[..weights.len()];
+    measure(weights, wholes, left);
+    put_ranks(left, ranks);
 }
 
 // Of each weight the whole part in millionths, and how many of the weights come before it by the fractions left over.
-pub fn rank_fractions(weights: &[f64], wholes: &mut [usize], ranks: &mut [usize]) -> Outcome
+pub fn rank_fractions(
+    weights: &[f64],
+    wholes: &mut [usize],
+    ranks: &mut [usize],
+) -> Result<(), Refusal>
     ensures value { result ≡ fractions_outcome weights.now (length wholes.old) (length ranks.old) }
     ensures wholes_after { wholes.new ≡ wholes_laid weights.now (length wholes.old) (length ranks.old) }
     ensures ranks_after { ranks.new ≡ ranks_laid weights.now (length wholes.old) (length ranks.old) }
 {
     let said = judge(weights, wholes.len(), ranks.len());
-    lent::clear_numbers_from(wholes, 0);
-    lent::clear_numbers_from(ranks, 0);
-    let Outcome::Done = said else {
-        return said;
-    };
+    lent::clear(wholes);
+    lent::clear(ranks);
+    said?;
     fill(weights, wholes, ranks);
-    said
+    Ok(())
 }

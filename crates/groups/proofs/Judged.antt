@@ -8,9 +8,7 @@ use borrow.Author.Tests.{ltb-false, eqb-true, eqb-false, not-false}
 use lib.ListN.{length, get_or, take}
 use lib.Seq.{take_at}
 use lib.Ieee.{Float}
-use Rattle.refusal.specs.Table.{first, and_then}
-use Rattle.refusal.specs.declared.Outcome.{Outcome}
-use Rattle.refusal.specs.declared.Outcome.TheVariants.{Done}
+use Rattle.refusal.specs.Table.{first, and_then, Outcome}
 use Rattle.refusal.proofs.Tables.{none, both_done}
 use Rattle.lent.specs.Grid.{noughts}
 use Rattle.fields.specs.Split.{all}
@@ -23,6 +21,7 @@ use Rattle.listing.specs.Listing.{name_in, is_short}
 use Rattle.listing.proofs.Sheets.{then_parts, names_short}
 use Rattle.groups.specs.Groups.{least_sheet, group_lines, group_outcome, group_sheet}
 use Rattle.groups.specs.Inner.{Sheetable}
+use Rattle.std.specs.Prelude.{Ok}
 
 -- what the lines find right
 record Right (text starts : List ℕ) (count : ℕ) (cs rows : List ℕ) (named : Bool) (room : ℕ) : Type 0 where
@@ -34,7 +33,7 @@ record Right (text starts : List ℕ) (count : ℕ) (cs rows : List ℕ) (named 
   tree : is_tree rows (length starts) ≡ true
   short : all (is_short text) starts ≡ true
 
-right : (text starts : List ℕ) (count : ℕ) (cs rows : List ℕ) (named : Bool) (room : ℕ) → first (group_lines text starts count cs rows named room) ≡ Done → Right text starts count cs rows named room
+right : (text starts : List ℕ) (count : ℕ) (cs rows : List ℕ) (named : Bool) (room : ℕ) → first (group_lines text starts count cs rows named room) ≡ Ok tt → Right text starts count cs rows named room
 unfolding group_lines
 right text starts count cs rows named room e =
     let a = none _ e in
@@ -62,8 +61,8 @@ module _ (text starts : List ℕ) (ws : List Float) (cs rows : List ℕ) (named 
       let r = right text starts (length ws) cs rows named room e in
       (omega (arith, r.few, r.weighed), r.limited)))
 
-  module _ (d : said ≡ Done) (parts : List ℕ) (p : parts ≡ figures_laid ws cs 64) where
-    both : (judged ≡ Done) × (ranged ≡ Done)
+  module _ (d : said ≡ Ok tt) (parts : List ℕ) (p : parts ≡ figures_laid ws cs 64) where
+    both : (judged ≡ Ok tt) × (ranged ≡ Ok tt)
     both = both_done judged ranged (sym t ∙ d)
 
     found : Right text starts (length ws) cs rows named room

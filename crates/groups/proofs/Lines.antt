@@ -57,9 +57,6 @@ pub indent_put : (k depth : ℕ) {d d' d'' : List ℕ} {at a' a'' : ℕ} → Wro
 indent_put k depth w p lt h =
     renamed (indent (k + 1)) (then w (put_fits p (omega (arith, w.moved, w.same, indent_length k)))) (sym (indent_more k))
 
-pub indent_all : (k depth : ℕ) {d d' : List ℕ} {at a' : ℕ} → Wrote d at (indent k) d' a' → k ≡ depth → Wrote d at (indent depth) d' a'
-indent_all k depth w e = renamed (indent depth) w (ap indent e)
-
 -- ---- an asset's name
 
 module _ (name : ℕ → List ℕ) (n v : ℕ) where
@@ -82,9 +79,6 @@ module _ (name : ℕ → List ℕ) (n v : ℕ) where
 
 module _ (name : ℕ → List ℕ) (n v : ℕ) (g : Group) (named : Bool) (d : List ℕ) (at : ℕ) (room : at + line_room named ≤ length d) where
   module _ (plain : named ≡ false) where
-    pub plain_room : at + 62 ≤ length d
-    plain_room = let h : at + 63 ≤ length d = rw plain at room in omega arith
-
     pub plain_put : {d₁ d₂ : List ℕ} {a₁ a₂ : ℕ} → Wrote d at (group_fields g) d₁ a₁ → Put d₁ a₁ (10 ∷ []) d₂ a₂ → Wrote d at (group_line named name n v g) d₂ a₂
     unfolding group_line
     plain_put w p = let h : at + 63 ≤ length d = rw plain at room in rw plain (then w (put_fits p (omega (arith, h, w.moved, w.same, fields_le g))))
@@ -92,9 +86,6 @@ module _ (name : ℕ → List ℕ) (n v : ℕ) (g : Group) (named : Bool) (d : L
   module _ (full : named ≡ true) (low : g.depth ≤ 63) where
     wide : at + 206 ≤ length d
     wide = rw full at room
-
-    pub indent_room : at + 2 * g.depth ≤ length d
-    indent_room = omega (arith, wide)
 
     module _ {d₁ : List ℕ} {a₁ : ℕ} (w : Wrote d at (indent g.depth) d₁ a₁) where
       pub fields_room : a₁ + 62 ≤ length d₁

@@ -95,9 +95,6 @@ module _ {rows : List ℕ} {n v : ℕ} {out : List ℕ} (p : NodesReady rows n v
           list = rw (nodes_fork p.on ge) (join (v ∷ L) R out mid rest (1 + l) (omega (arith, w.size)) mid_is u.list);
         }
 
-        pub kept_fork : length (take (1 + l) mid ++ (rest ++ drop (length mid - (1 + l)) (drop (1 + l) mid))) ≡ length out
-        kept_fork = ap length wrote_fork.list ∙ length_over (nodes_below rows n v) out p.room
-
         pub total_fits : 1 + l + r ≤ length out
         total_fits = omega (arith, size_fork, w.size, u.size, p.room)
 

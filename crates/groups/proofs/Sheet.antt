@@ -6,8 +6,7 @@ use mathlib.Core.List.{List}
 use native.Mathlib.Omega.{arith}
 use native.Mathlib.Numerals.{add-one}
 use lib.ListN.{length, get_or, take, length-replicate}
-use lib.Seq.{take_at, take-suc, take_all}
-use Rattle.refusal.specs.declared.Outcome.{Outcome}
+use lib.Seq.{take_at, take-suc}
 use Rattle.lent.specs.Count.{over_all}
 use Rattle.lent.specs.Grid.{tab, over, noughts}
 use Rattle.lent.proofs.Laws.{length_tab, get_d_tab, length_over, get_d_over}
@@ -27,6 +26,7 @@ use Rattle.listing.specs.Listing.{name_in}
 use Rattle.groups.specs.Groups.{group_of, group_line, nodes_down, line_down, group_sheet}
 use Rattle.groups.specs.Inner.{nodes_below, NodesReady, NodesWritten, Looked, Lined, line_at, Sheetable}
 use Rattle.groups.proofs.Nodes.{nodes_down_lem, nodes_count, nodes_low}
+use Rattle.refusal.specs.Table.{Outcome}
 
 -- ---- some assets' parts, added up one by one
 
@@ -41,9 +41,6 @@ module _ (parts members : List ℕ) where
       ap (λ (k : ℕ). k + get_or parts (get_or members i 0) 0) e ∙ sym (over_all_snoc (λ a. get_or parts a 0) (take i members) (get_or members i 0))
       ∙ ap (over_all (λ a. get_or parts a 0)) (sym (ap (λ (k : ℕ). take k members) (add-one i) ∙ take-suc members i 0 h))
 
-  pub sum_all : {s : ℕ} (i : ℕ) → s ≡ subtotal parts (take i members) → length members ≤ i → s ≡ subtotal parts members
-  sum_all i e h = e ∙ ap (subtotal parts) (take_all i members h)
-
 module _ {text starts rows parts : List ℕ} (p : Sheetable text starts rows parts) where
   abbrev n : ℕ
   n = length starts
@@ -53,9 +50,6 @@ module _ {text starts rows parts : List ℕ} (p : Sheetable text starts rows par
 
   few : n ≤ 64
   few = p.named.few
-
-  pub root_fits : (2 ≤ 2 * n) × (2 * n ≤ 128)
-  root_fits = (omega (arith, p.some), omega (arith, few))
 
   on_root : OnTree rows n (2 * n - 2)
   on_root = record { some = p.some; tree = p.tree; node = omega arith }

@@ -1,8 +1,7 @@
 -- Document 02, request 13, "Group lines on the sheet": "a line per node from the root down, left first: depth, size, subtotal of the listing's millionths, tabs between"; request 10: these are after ceilings. Definitions only.
 use Rattle.std.specs.Prelude.{ℕ, zero, suc, Bool, true, false, not, cond, List, [], ◌∷◌, ◌++◌, map, ltb, eqb, length, get_or, Float}
-use Rattle.refusal.specs.Table.{Line, first, and_then}
+use Rattle.refusal.specs.Table.{Line, first, and_then, Outcome}
 use Rattle.refusal.specs.declared.Refusal.TheVariants.{NoData, DimensionMismatch, OverLimit, ShortBuffer, NoTree, MalformedText}
-use Rattle.refusal.specs.declared.Outcome.{Outcome}
 use Rattle.lent.specs.Lent.{most_assets}
 use Rattle.text.specs.Bytes.{bytes}
 use Rattle.fields.specs.Split.{newline, tabulator, all}

@@ -13,8 +13,7 @@ ghost use Rattle.listing.specs.Inner.{Named};
 ghost use Rattle.groups.specs.Groups.{group_fields, indent, tag_of, group_line, group_sheet, least_sheet, group_lines, group_outcome};
 ghost use Rattle.groups.specs.Inner.{NodesReady, NodesWritten, Summable, Looked, line_room, Lined, line_at, Sheetable};
 
-use listing::Listed;
-use refusal::{Outcome, Refusal};
+use refusal::Refusal;
 use tree::Node;
 
 // A node's depth, size and subtotal.
@@ -49,10 +48,8 @@ fn total(parts: &[usize], members: &[usize]) -> usize
     ensures { result ≡ subtotal parts.now members.now }
 {
     let mut sum: usize = 0;
-    let mut k = 0;
-    while k < members.len() {
-        sum += parts[members[k]];
-        k += 1;
+    for &m in members {
+        sum += parts[m];
     }
     sum
 }
@@ -69,11 +66,8 @@ fn put_totals(
     requires { Looked order.now firsts.now sizes.now n parts.now (length out.old) }
     ensures { out.new ≡ over (tab (2 * n - 1) (λ v. subtotal parts.now (part_of order.now firsts.now sizes.now n v))) out.old }
 {
-    let nodes = n + (n - 1);
-    let mut v = 0;
-    while v < nodes {
+    for v in 0..2 * n - 1 {
         out[v] = total(parts, branches::members(order, firsts, sizes, n, Node(v)));
-        v += 1;
     }
 }
 
@@ -95,10 +89,8 @@ fn put_indent(out: &mut [u8], at: usize, depth: usize) -> usize
     ensures { Wrote out.old at (indent depth) out.new result }
 {
     let mut end = at;
-    let mut i = 0;
-    while i < depth {
+    for _ in 0..depth {
         end = writing::put_bytes(out, end, b"  ");
-        i += 1;
     }
     end
 }
@@ -158,16 +150,13 @@ fn put_lines(
     ensures { Wrote out.old 0 (joined (length nodes.now) (line_at named (name_in text.now starts.now) (length starts.now) nodes.now depths.now sizes.now totals.now)) out.new result }
 {
     let mut at = 0;
-    let mut i = 0;
-    while i < nodes.len() {
-        let v = nodes[i];
+    for &v in nodes {
         let group = Group {
             depth: depths[v],
             size: sizes[v],
             total: totals[v],
         };
         at = put_line(text, starts, v, group, named, out, at);
-        i += 1;
     }
     at
 }
@@ -189,9 +178,9 @@ fn put_sheet(
     let mut firsts = [0usize; 127];
     let mut sizes = [0usize; 127];
     let mut depths = [0usize; 127];
-    branches::summarize(rows, n, &mut firsts, &mut sizes, &mut depths);
+    let _ = branches::summarize(rows, n, &mut firsts, &mut sizes, &mut depths);
     let mut order = [0usize; 64];
-    tree::quasi_diagonalization(rows, n, Node(2 * n - 2), &mut order);
+    let _ = tree::quasi_diagonalization(rows, n, Node(2 * n - 2), &mut order);
     let mut totals = [0usize; 127];
     put_totals(&order, &firsts, &sizes, n, parts, &mut totals);
     let mut nodes = [0usize; 127];
@@ -209,16 +198,15 @@ fn put_sheet(
 }
 
 // 8,192 bytes hold every sheet, and 32,768 every sheet with names.
+#[tactic(auto, unfolding(crate::specs::Groups::least_sheet))]
 pub fn least_sheet(named: bool) -> usize
     ensures { result ≡ least_sheet named }
 {
-    if named {
-        return 32768;
-    }
-    8192
+    if named { 32768 } else { 8192 }
 }
 
 // 9, 11, 3, 1, 14 and 15 of a sheet.
+#[tactic(auto, unfolding(crate::specs::Groups::group_lines, refusal::specs::Table::first, refusal::specs::Table::or_else))]
 fn judge(
     text: &[u8],
     starts: &[usize],
@@ -227,26 +215,21 @@ fn judge(
     rows: &[usize],
     named: bool,
     room: usize,
-) -> Outcome
+) -> Result<(), Refusal>
     ensures { result ≡ first (group_lines text.now starts.now weights ceilings.now rows.now named room) }
 {
     let n = starts.len();
-    let o = refusal::refuse(
-        !listing::all_short(text, starts),
-        Refusal::MalformedText,
-        Outcome::Done,
-    );
-    let o = refusal::refuse(!tree::is_tree(rows, n), Refusal::NoTree, o);
-    let o = refusal::refuse(n == 0, Refusal::NoData, o);
-    let o = refusal::refuse(
+    refusal::refuse(reading::MOST_BYTES < text.len(), Refusal::OverLimit)?;
+    refusal::refuse(lent::MOST_ASSETS < n, Refusal::OverLimit)?;
+    refusal::refuse(room < least_sheet(named), Refusal::ShortBuffer)?;
+    refusal::refuse(weights != n, Refusal::DimensionMismatch)?;
+    refusal::refuse(
         ceilings::are_unlike(ceilings, n),
         Refusal::DimensionMismatch,
-        o,
-    );
-    let o = refusal::refuse(weights != n, Refusal::DimensionMismatch, o);
-    let o = refusal::refuse(room < least_sheet(named), Refusal::ShortBuffer, o);
-    let o = refusal::refuse(lent::MOST_ASSETS < n, Refusal::OverLimit, o);
-    refusal::refuse(reading::MOST_BYTES < text.len(), Refusal::OverLimit, o)
+    )?;
+    refusal::refuse(n == 0, Refusal::NoData)?;
+    refusal::refuse(!tree::is_tree(rows, n), Refusal::NoTree)?;
+    refusal::refuse(!listing::all_short(text, starts), Refusal::MalformedText)
 }
 
 // The sheet of the assets whose names begin at `starts`, by their weights, their ceilings or none, and the rows of their tree, at the front of out. A refused sheet leaves zeros.
@@ -258,7 +241,7 @@ pub fn group_sheet(
     rows: &[usize],
     named: bool,
     out: &mut [u8],
-) -> Listed
+) -> Result<usize, Refusal>
     ensures { ListingMade
         (group_outcome text.now starts.now weights.now ceilings.now rows.now named (length out.old))
         (group_sheet named (name_in text.now starts.now) rows.now (figures_in weights.now ceilings.now) (length starts.now))
@@ -276,16 +259,7 @@ pub fn group_sheet(
         out.len(),
     );
     let said = refusal::and_then(judged, parted);
-    lent::clear_bytes_from(out, 0);
-    match said {
-        Outcome::Done => Listed::Sheet(put_sheet(
-            text,
-            starts,
-            rows,
-            &parts[..starts.len()],
-            named,
-            out,
-        )),
-        Outcome::Refused(r) => Listed::Refused(r),
-    }
+    lent::clear(out);
+    said?;
+    Ok(put_sheet(text, starts, rows, &parts[..starts.len()], named, out))
 }

@@ -9,8 +9,6 @@ use lib.ListN.{length, take, replicate}
 use lib.Seq.{take-append_seam}
 use lib.Ieee.{Float}
 use Rattle.arithmetic.specs.Constants.{pz}
-use Rattle.refusal.specs.declared.Outcome.{Outcome}
-use Rattle.refusal.specs.declared.Outcome.TheVariants.{Done}
 use Rattle.refusal.proofs.Tables.{none, parts_done}
 use Rattle.lent.specs.Lent.{laid}
 use Rattle.inputs.specs.Inputs.{matrix_lines}
@@ -27,13 +25,15 @@ use Rattle.equal.specs.Equal.{EqualShares}
 use Rattle.equal.proofs.Sharing.{equal_shared}
 use Rattle.hierarchy.specs.Hierarchy.{Room, hcaa_rows, hcaa_shares, room_lines, share_lines, HierarchyLaid}
 use Rattle.hcaa.specs.Hcaa.{HcaaJob, used_metric, used_inputs, hcaa_covariance, used_rule, cluster_count, name_lines, matrix_rules, sharpe_lines, hcaa_table, hcaa_outcome, HcaaAllocated}
+use Rattle.std.specs.Prelude.{Ok}
+use Rattle.refusal.specs.Table.{Outcome}
 
 -- what stands at the front of a buffer after an accepted job
-front : {A : Type 0} (z : A) (o : Outcome) (room n : ℕ) (cells out : List A) → o ≡ Done → length cells ≡ n → out ≡ laid z o room cells → take n out ≡ cells
+front : {A : Type 0} (z : A) (o : Outcome) (room n : ℕ) (cells out : List A) → o ≡ Ok tt → length cells ≡ n → out ≡ laid z o room cells → take n out ≡ cells
 unfolding laid
 front z o room n cells out e h g = rw (g, e, ← h) (take-append_seam cells (replicate (room - length cells) z))
 
-module _ (j : HcaaJob) (room : Room) (o : hcaa_outcome j room ≡ Done) where
+module _ (j : HcaaJob) (room : Room) (o : hcaa_outcome j room ≡ Ok tt) where
   -- what the lines find right
   record Right : Type 0 where
     few : j.assets ≤ 64
@@ -87,7 +87,7 @@ module _ (j : HcaaJob) (room : Room) (o : hcaa_outcome j room ≡ Done) where
       (ap (λ (x : Metric). down_shares x (used_inputs j) (hcaa_covariance j) rows_made j.assets (cluster_count j.clusters j.assets)) (sym m) ∙ (shares_length _ _ _ _ _ _ right.shared).0)
 
 -- of the buffers that an accepted job leaves, whoever says the outcome
-pub equal_laid : (j : HcaaJob) (room : Room) (o : Outcome) (rows order : List ℕ) (weights scratch : List Float) → o ≡ Done → hcaa_outcome j room ≡ Done → used_metric j ≡ EqualWeighting
+pub equal_laid : (j : HcaaJob) (room : Room) (o : Outcome) (rows order : List ℕ) (weights scratch : List Float) → o ≡ Ok tt → hcaa_outcome j room ≡ Ok tt → used_metric j ≡ EqualWeighting
     → HierarchyLaid o (used_rule j) j.distance j.linkage (hcaa_covariance j) j.assets room rows order weights scratch
     → EqualShares j.assets (cluster_count j.clusters j.assets) (take (2 * (j.assets - 1)) rows) (take j.assets weights)
 equal_laid j room o rows order weights scratch e h m z =

@@ -11,17 +11,12 @@ use lib.ListN.{length, take}
 use lib.Ieee.{Float}
 use mir.Syntax.{w64}
 use mir.Val.{Fits as Word}
-use Rattle.refusal.specs.Table.{Line, first, or_else, and_then}
+use Rattle.refusal.specs.Table.{Line, first, or_else, and_then, Outcome}
 use Rattle.refusal.specs.declared.Refusal.{Refusal}
 use Rattle.refusal.specs.declared.Refusal.TheVariants.{NoData, DimensionMismatch, MissingExpectedReturnsForSharpe, UnknownReturns, OverLimit, SliceLength}
-use Rattle.refusal.specs.declared.Outcome.{Outcome}
-use Rattle.refusal.specs.declared.Outcome.TheVariants.{Done, Refused}
 use Rattle.refusal.proofs.Tables.{none, table, table_pass, table_end, first_append, first_done, then_done, then_refused, both_done, parts_done, done_refused}
 use Rattle.lent.specs.Grid.{tab}
-use Rattle.lent.specs.Lent.{sizes, answer_of}
-use Rattle.lent.specs.declared.Answer.{Answer}
-use Rattle.lent.specs.declared.Shape.{Shape}
-use Rattle.lent.specs.declared.Shape.TheVariants.{Absent, Of}
+use Rattle.lent.specs.Lent.{sizes, answer_of, Answer, Shape, size}
 use Rattle.lent.proofs.Laws.{square_in, length_grid, length_tab}
 use Rattle.lent.proofs.Sizes.{Sized, sized_done}
 use Rattle.resample.specs.Resample.{step_of}
@@ -31,33 +26,34 @@ use Rattle.stats.specs.Expected.{mean_return, exponential_return}
 use Rattle.linkage.specs.declared.Distance.{Distance}
 use Rattle.linkage.specs.declared.Linkage.{Linkage}
 use Rattle.metrics.specs.declared.Metric.{Metric}
-use Rattle.metrics.specs.declared.NamedMetric.{NamedMetric}
 use Rattle.sharing.specs.Names.{metric_named}
 use Rattle.sharing.specs.Down.{is_sharpe, is_tail_risk, other_rows}
 use Rattle.hierarchy.specs.Hierarchy.{HierarchyCall, Room, room_lines, hierarchy_size_lines, hierarchy_shape_lines, expected_lines, rule_lines, hierarchy_judge_table, hcaa_risk_lines, share_lines, hierarchy_table, hierarchy_outcome, HierarchyAnswered, Cleared, square_lines}
 use Rattle.hierarchy.proofs.Answers.{laid_cleared}
-use Rattle.hcaa.specs.declared.Clusters.{Clusters}
 use Rattle.hcaa.specs.declared.Wanted.{Wanted}
 use Rattle.hcaa.specs.declared.Wanted.TheVariants.{Nothing, Given, Mean, Exponential, Unknown}
 use Rattle.hcaa.specs.Hcaa.{HcaaJob, hcaa_return_rows, return_columns, hcaa_return_cells, prices_refused, rows_made, columns_made, cells_made, hcaa_covariance_by, hcaa_covariance, metric_of, used_metric, is_mean, is_exponential, expected_of, used_expected, cluster_count, used_inputs, used_rule, names_judged, name_lines, rows_judged, matrix_rules, sharpe_judged, sharpe_lines, hcaa_table, hcaa_outcome, HcaaAllocated}
 use Rattle.hcaa.specs.Inner.{hcaa_job, wanted_by, hcaa_judge_table, sizes_of, source_outcome, Sources, Gathered, height_of, rest_outcome, Coverable, Hopeful, hopes_of, hoped_for}
 use Rattle.hcaa.proofs.Stages.{want_judged, want_lines}
 use Rattle.hcaa.proofs.Equal.{allocated}
+use Rattle.std.specs.Prelude.{Some, Ok, None, Err}
+use Rattle.hcaa.specs.Outcomes.{Clusters}
+use Rattle.metrics.specs.Outcomes.{NamedMetric}
 
 -- ---- the first judge
 
-sizes_of_lem : (s : Shape) (len : ℕ) → Fits s len → first (sizes_of s len) ≡ Done
+sizes_of_lem : (s : Shape) (len : ℕ) → Fits s len → first (sizes_of s len) ≡ Ok tt
 unfolding sizes_of
-sizes_of_lem Absent len f = table_end
-sizes_of_lem (Of h w) len f = sizes_pass len h w f
+sizes_of_lem None len f = table_end
+sizes_of_lem (Some s) len f = sizes_pass len s.rows s.columns f
 
 module _ (n : ℕ) (ps : Shape) (pl : ℕ) (rs : Shape) (rl : ℕ) (cs : Shape) (cl : ℕ) (read : NamedMetric) (room : Room) (said : Outcome) (e : said ≡ first (hcaa_judge_table n ps pl rs rl cs cl read room)) where
   record Started : Type 0 where
     matrices : Matrices n ps pl rs rl cs cl
     some : eqb n 0 ≡ false
-    roomy : first (room_lines n room) ≡ Done
+    roomy : first (room_lines n room) ≡ Ok tt
 
-  starts : said ≡ Done → Started
+  starts : said ≡ Ok tt → Started
   unfolding hcaa_judge_table names_judged
   starts d =
       let a = parts_done (matrix_lines n ps pl rs rl cs cl) _ (sym e ∙ d) in
@@ -76,19 +72,19 @@ same_cells (suc h) w n t =
     let q : not (eqb w n) ≡ false = rw (lt-ltb 0 (suc h) (omega arith)) at t in
     ap (λ (v : ℕ). suc h * v) (eqb-true w n (not-false _ q))
 
-sized_assets : (len h w n : ℕ) → Sized len h w → n ≤ 64 → h * w ≡ h * n → first (sizes len h n) ≡ Done
+sized_assets : (len h w n : ℕ) → Sized len h w → n ≤ 64 → h * w ≡ h * n → first (sizes len h n) ≡ Ok tt
 sized_assets len h w n z few q = sizes_pass len h n record { tall = z.tall; wide = few; small = rw (← q) z.small; cells = z.cells ∙ q }
 
-source_sized : (p : List Float) (ps : Shape) (xs : List Float) (rs : Shape) (s : ℕ) → Fits ps (length p) → Fits rs (length xs) → or_else (prices_refused p s rs ps) NoData Done ≡ Done
+source_sized : (p : List Float) (ps : Shape) (xs : List Float) (rs : Shape) (s : ℕ) → Fits ps (length p) → Fits rs (length xs) → or_else (prices_refused p s rs ps) NoData (Ok tt) ≡ Ok tt
     → Sized (length (hcaa_return_cells p xs s rs ps)) (hcaa_return_rows s rs ps) (return_columns rs ps)
 unfolding prices_refused hcaa_return_cells hcaa_return_rows return_columns
-source_sized p ps xs (Of h w) s f g o = g
-source_sized p (Of h w) xs Absent s f g o = (made_done p h w s 4096 (made_judged p h w s 4096 f (omega arith) ∙ o)).sized
-source_sized p Absent xs Absent s f g o = record { tall = omega arith; wide = omega arith; small = omega arith; cells = refl }
+source_sized p ps xs (Some z) s f g o = g
+source_sized p (Some z) xs None s f g o = (made_done p z.rows z.columns s 4096 (made_judged p z.rows z.columns s 4096 f (omega arith) ∙ o)).sized
+source_sized p None xs None s f g o = record { tall = omega arith; wide = omega arith; small = omega arith; cells = refl }
 
 -- ---- the covariance that is given
 
-size_is : (rows w n : ℕ) → other_size (Of rows w) n ≡ false → (rows ≡ n) × (w ≡ n)
+size_is : (rows w n : ℕ) → other_size (Some (size rows w)) n ≡ false → (rows ≡ n) × (w ≡ n)
 unfolding other_size
 size_is rows w n e = go (eqb rows n) (eqb w n) (eqb-true rows n) (eqb-true w n) e
   where
@@ -99,22 +95,22 @@ size_is rows w n e = go (eqb rows n) (eqb w n) (eqb-true rows n) (eqb-true w n) 
 
 given_cells : (n : ℕ) (s : Shape) (len : ℕ) → Fits s len → other_size s n ≡ false → absent s ≡ false → len ≡ n * n
 unfolding absent
-given_cells n Absent len f o t = absurd (let z : ◌≡◌ {A = ℕ} 0 1 = cc in omega arith)
-given_cells n (Of h w) len f o t = let q = size_is h w n o in rw (q.0, q.1) at f.cells
+given_cells n None len f o t = absurd (let z : ◌≡◌ {A = ℕ} 0 1 = cc in omega arith)
+given_cells n (Some s) len f o t = let q = size_is s.rows s.columns n o in rw (q.0, q.1) at f.cells
 
 -- ---- both judges, with the returns between them
 
 rest_of : (o : Outcome) (h w n : ℕ) (cs : Shape) (el : ℕ) (m : Metric) (given : Bool) (method : List ℕ)
     → rest_outcome (answer_of o h w) n cs el m given method ≡ and_then o (and_then (first (rows_judged n h w cs)) (first (sharpe_judged m given method el n h)))
 unfolding rest_outcome answer_of and_then
-rest_of Done h w n cs el m given method = refl
-rest_of (Refused r) h w n cs el m given method = refl
+rest_of (Ok _) h w n cs el m given method = refl
+rest_of (Err r) h w n cs el m given method = refl
 
-given_judged : (m : Metric) (given : Bool) (method : List ℕ) (n h el : ℕ) → first (sharpe_judged m given method el n h) ≡ Done → wanted_by m given method ≡ Given → el ≡ n
+given_judged : (m : Metric) (given : Bool) (method : List ℕ) (n h el : ℕ) → first (sharpe_judged m given method el n h) ≡ Ok tt → wanted_by m given method ≡ Given → el ≡ n
 unfolding want_judged or_else
 given_judged m given method n h el e t = go (eqb el n) (eqb-true el n) (rw t at (sym (want_lines m given method el n h) ∙ e))
   where
-    go : (b : Bool) → (b ≡ true → el ≡ n) → or_else (not b) DimensionMismatch Done ≡ Done → el ≡ n
+    go : (b : Bool) → (b ≡ true → el ≡ n) → or_else (not b) DimensionMismatch (Ok tt) ≡ Ok tt → el ≡ n
     go true f q = f refl
     go false f q = absurd (done_refused DimensionMismatch (sym q))
 
@@ -126,10 +122,10 @@ Rest said got n cs el wanted = (m : Metric) (given : Bool) (method : List ℕ) �
 pub record Ready (n : ℕ) (xs : List Float) (h : ℕ) (cs : Shape) (cl el : ℕ) (m : Metric) (given : Bool) (method : List ℕ) (room : Room) : Type 0 where
   pub few : n ≤ 64
   pub some : eqb n 0 ≡ false
-  pub roomy : first (room_lines n room) ≡ Done
-  pub sized : first (sizes (length xs) h n) ≡ Done
+  pub roomy : first (room_lines n room) ≡ Ok tt
+  pub sized : first (sizes (length xs) h n) ≡ Ok tt
   pub coverable : Coverable cs cl h n
-  pub judged : first (sharpe_judged m given method el n h) ≡ Done
+  pub judged : first (sharpe_judged m given method el n h) ≡ Ok tt
 
 module _ (n : ℕ) (p : List Float) (ps : Shape) (xs : List Float) (rs : Shape) (cs : Shape) (cl : ℕ) (read : NamedMetric) (room : Room) (s el : ℕ) (m : Metric) (given : Bool) (method : List ℕ) (wanted : Wanted)
     (before : Outcome) (got : Answer) (said : Outcome) (made : List Float) (t : wanted ≡ wanted_by m given method)
@@ -143,11 +139,11 @@ module _ (n : ℕ) (p : List Float) (ps : Shape) (xs : List Float) (rs : Shape) 
   said_is : said ≡ and_then (source_outcome before p s rs ps) (and_then (first rules) expects)
   said_is = f m given method t ∙ ap (λ (x : Answer). rest_outcome x n cs el m given method) b.answer ∙ rest_of (source_outcome before p s rs ps) _ _ n cs el m given method
 
-  module _ (d : said ≡ Done) where
-    parts : (source_outcome before p s rs ps ≡ Done) × (and_then (first rules) expects ≡ Done)
+  module _ (d : said ≡ Ok tt) where
+    parts : (source_outcome before p s rs ps ≡ Ok tt) × (and_then (first rules) expects ≡ Ok tt)
     parts = both_done _ _ (sym said_is ∙ d)
 
-    earlier : (before ≡ Done) × (or_else (prices_refused p s rs ps) NoData Done ≡ Done)
+    earlier : (before ≡ Ok tt) × (or_else (prices_refused p s rs ps) NoData (Ok tt) ≡ Ok tt)
     unfolding source_outcome
     earlier = both_done before _ parts.0
 
@@ -215,27 +211,27 @@ part_word k len e h = omega arith
 -- ---- the expected returns that are used
 
 -- an unknown method is refused
-unknown_judged : {A : Type 0} (n h len : ℕ) → want_judged n h len Unknown ≡ Done → A
+unknown_judged : {A : Type 0} (n h len : ℕ) → want_judged n h len Unknown ≡ Ok tt → A
 unfolding want_judged or_else
 unknown_judged {A} n h len e = go (eqb h 0) e
   where
-    go : (b : Bool) → or_else b MissingExpectedReturnsForSharpe (Refused UnknownReturns) ≡ Done → A
+    go : (b : Bool) → or_else b MissingExpectedReturnsForSharpe (Err UnknownReturns) ≡ Ok tt → A
     go true q = absurd (done_refused _ (sym q))
     go false q = absurd (done_refused _ (sym q))
 
-expected_is : (j : HcaaJob) → first (sharpe_judged (used_metric j) j.expected_given j.method (length j.expected) j.assets (rows_made j)) ≡ Done
+expected_is : (j : HcaaJob) → first (sharpe_judged (used_metric j) j.expected_given j.method (length j.expected) j.assets (rows_made j)) ≡ Ok tt
     → hoped_for j.expected (cells_made j) (rows_made j) j.assets (wanted_by (used_metric j) j.expected_given j.method) ≡ used_expected j
 unfolding used_expected expected_of hoped_for wanted_by
 expected_is j e = go (is_sharpe (used_metric j)) j.expected_given (sym (want_lines (used_metric j) j.expected_given j.method (length j.expected) j.assets (rows_made j)) ∙ e)
   where
-    estimated : (a b : Bool) → want_judged j.assets (rows_made j) (length j.expected) (cond a Mean (cond b Exponential Unknown)) ≡ Done
+    estimated : (a b : Bool) → want_judged j.assets (rows_made j) (length j.expected) (cond a Mean (cond b Exponential Unknown)) ≡ Ok tt
         → hoped_for j.expected (cells_made j) (rows_made j) j.assets (cond a Mean (cond b Exponential Unknown))
         ≡ cond a (tab j.assets (mean_return (cells_made j) (rows_made j) j.assets)) (tab j.assets (exponential_return (cells_made j) (rows_made j) j.assets))
     estimated true b e = refl
     estimated false true e = refl
     estimated false false e = unknown_judged j.assets (rows_made j) (length j.expected) e
 
-    go : (s g : Bool) → want_judged j.assets (rows_made j) (length j.expected) (cond s (cond g Given (cond (is_mean j.method) Mean (cond (is_exponential j.method) Exponential Unknown))) Nothing) ≡ Done
+    go : (s g : Bool) → want_judged j.assets (rows_made j) (length j.expected) (cond s (cond g Given (cond (is_mean j.method) Mean (cond (is_exponential j.method) Exponential Unknown))) Nothing) ≡ Ok tt
         → hoped_for j.expected (cells_made j) (rows_made j) j.assets (cond s (cond g Given (cond (is_mean j.method) Mean (cond (is_exponential j.method) Exponential Unknown))) Nothing)
         ≡ cond s (expected_of j g) []
     go false g e = refl
@@ -243,12 +239,12 @@ expected_is j e = go (is_sharpe (used_metric j)) j.expected_given (sym (want_lin
     go true false e = estimated (is_mean j.method) (is_exponential j.method) e
 
 -- the stages, joined
-in_stages : (x : Outcome) (t : Bool) (k : Refusal) (u v z : Outcome) → and_then x (or_else t k (and_then u (and_then v z))) ≡ and_then (and_then (and_then x (or_else t k Done)) (and_then u v)) z
+in_stages : (x : Outcome) (t : Bool) (k : Refusal) (u v z : Outcome) → and_then x (or_else t k (and_then u (and_then v z))) ≡ and_then (and_then (and_then x (or_else t k (Ok tt))) (and_then u v)) z
 unfolding and_then or_else
-in_stages Done true k u v z = refl
-in_stages Done false k Done v z = refl
-in_stages Done false k (Refused r) v z = refl
-in_stages (Refused r) t k u v z = refl
+in_stages (Ok _) true k u v z = refl
+in_stages (Ok _) false k (Ok _) v z = refl
+in_stages (Ok _) false k (Err r) v z = refl
+in_stages (Err r) t k u v z = refl
 
 no_both : (a b : Bool) → (a && (b && false)) ≡ false
 no_both true true = refl
@@ -290,12 +286,12 @@ module _ (j : HcaaJob) (room : Room) (before : Outcome) (got : Answer) (said : O
       ∙ ap (λ (o : Outcome). and_then o (first shares)) (sym (said_is _ _ _ _ _ _ _ _ _ _ _ _ _ _ _ before got said made refl a b f ∙ rw a))
 
   module _ (rows order : List ℕ) (weights scratch : List Float) where
-    ends_refused : (k : Refusal) → said ≡ Refused k → Cleared room rows order weights scratch → HcaaAllocated j room said rows order weights scratch
+    ends_refused : (k : Refusal) → said ≡ Err k → Cleared room rows order weights scratch → HcaaAllocated j room said rows order weights scratch
     ends_refused k h z =
-        let r : hcaa_outcome j room ≡ Refused k = outcome_is ∙ then_refused said _ k h in
+        let r : hcaa_outcome j room ≡ Err k = outcome_is ∙ then_refused said _ k h in
         allocated j room said rows order weights scratch (h ∙ sym r) (laid_cleared _ k (used_rule j) j.distance j.linkage (hcaa_covariance j) j.assets room rows order weights scratch r z)
 
-  module _ (d : said ≡ Done) where
+  module _ (d : said ≡ Ok tt) where
     abbrev n : ℕ
     n = j.assets
 
@@ -308,8 +304,8 @@ module _ (j : HcaaJob) (room : Room) (before : Outcome) (got : Answer) (said : O
     length_covariance = go j.covariance_shape fit.coverable.cells
       where
         go : (s : Shape) → (absent s ≡ false → length j.covariance ≡ n * n) → length (hcaa_covariance_by j.covariance (cells_made j) (rows_made j) n s) ≡ n * n
-        go (Of h w) e = e refl
-        go Absent e = length_grid n n _
+        go (Some s) e = e refl
+        go None e = length_grid n n _
 
     length_expected : (is_sharpe (used_metric j) && (true && not (eqb (length (used_expected j)) n))) ≡ false
     unfolding used_expected expected_of wanted_by
@@ -326,14 +322,14 @@ module _ (j : HcaaJob) (room : Room) (before : Outcome) (got : Answer) (said : O
         go true false t = rw (either (is_mean j.method) _ _ (length_tab n _) (length_tab n _), eq-eqb n n refl)
 
     -- neither the sizes of its matrices, nor their shapes, nor its expected returns are refused again
-    sizes_right : first (hierarchy_size_lines (asked j) (length (hcaa_covariance j)) n n) ≡ Done
+    sizes_right : first (hierarchy_size_lines (asked j) (length (hcaa_covariance j)) n n) ≡ Ok tt
     unfolding hierarchy_size_lines sizes used_rule used_inputs
     sizes_right =
         let z : Sized (length (hcaa_covariance j)) n n = record { tall = omega (arith, fit.few); wide = fit.few; small = square_in n fit.few; cells = length_covariance } in
         let t = none (sizes (length (cells_made j)) (rows_made j) n) fit.sized in
         table_pass _ OverLimit _ t.0 ∙ first_done (sizes (length (hcaa_covariance j)) n n) _ (sizes_pass (length (hcaa_covariance j)) n n z) ∙ table_pass _ SliceLength _ t.1.0 ∙ table_end
 
-    shapes_right : first (hierarchy_shape_lines (asked j) n n) ≡ Done
+    shapes_right : first (hierarchy_shape_lines (asked j) n n) ≡ Ok tt
     unfolding hierarchy_shape_lines other_rows used_rule used_inputs square_lines
     shapes_right =
         table_pass _ NoData _ fit.some
@@ -341,7 +337,7 @@ module _ (j : HcaaJob) (room : Room) (before : Outcome) (got : Answer) (said : O
         ∙ table_pass _ DimensionMismatch _ (rw (eq-eqb n n refl) (no_both (is_tail_risk (used_metric j)) (ltb 0 (rows_made j))))
         ∙ table_end
 
-    expects_right : first (expected_lines (asked j) n) ≡ Done
+    expects_right : first (expected_lines (asked j) n) ≡ Ok tt
     unfolding expected_lines used_rule used_inputs
     expects_right = table_pass _ DimensionMismatch _ length_expected ∙ table_pass _ MissingExpectedReturnsForSharpe _ (and-false (is_sharpe (used_metric j))) ∙ table_end
 
@@ -419,10 +415,10 @@ module _ (n : ℕ) (p : List Float) (ps : Shape) (xs : List Float) (rs : Shape) 
   f' : Rest said got n cs (length e) (wanted_by (used_metric call) given method)
   f' = rw wanted_is at f
 
-  pub ended_refused : (x : Refusal) → said ≡ Refused x → Cleared room rows order weights scratch → HcaaAllocated (hcaa_job n p ps xs rs c cs e given m method conf k by d l) room said rows order weights scratch
+  pub ended_refused : (x : Refusal) → said ≡ Err x → Cleared room rows order weights scratch → HcaaAllocated (hcaa_job n p ps xs rs c cs e given m method conf k by d l) room said rows order weights scratch
   ended_refused x h z = ends_refused call room before got said made a' b' f' rows order weights scratch x h z
 
-  pub ended_done : (r : Outcome) (height count : ℕ) (cov ys : List Float) → said ≡ Done → height ≡ height_of got → count ≡ cluster_count k n
+  pub ended_done : (r : Outcome) (height count : ℕ) (cov ys : List Float) → said ≡ Ok tt → height ≡ height_of got → count ≡ cluster_count k n
       → cov ≡ hcaa_covariance_by c (take (height * n) made) height n cs → ys ≡ hoped_for e (take (height * n) made) height n wanted
       → HierarchyAnswered
       (record {

@@ -9,18 +9,12 @@ use lib.Dec.{eqb}
 use lib.ListN.{length, take}
 use lib.Ieee.{Float}
 use Rattle.arithmetic.specs.Constants.{pz}
-use Rattle.refusal.specs.Table.{Line, first, or_else, and_then}
+use Rattle.refusal.specs.Table.{Line, first, or_else, and_then, Outcome}
 use Rattle.refusal.specs.declared.Refusal.{Refusal}
 use Rattle.refusal.specs.declared.Refusal.TheVariants.{NoData, DimensionMismatch, MissingExpectedReturnsForSharpe, UnknownReturns}
-use Rattle.refusal.specs.declared.Outcome.{Outcome}
-use Rattle.refusal.specs.declared.Outcome.TheVariants.{Done, Refused}
 use Rattle.refusal.proofs.Tables.{table, first_append, then_refused, done_refused}
 use Rattle.lent.specs.Grid.{grid, over}
-use Rattle.lent.specs.Lent.{sizes, answer_of}
-use Rattle.lent.specs.declared.Answer.{Answer}
-use Rattle.lent.specs.declared.Answer.TheVariants as answer
-use Rattle.lent.specs.declared.Shape.{Shape}
-use Rattle.lent.specs.declared.Shape.TheVariants.{Absent, Of}
+use Rattle.lent.specs.Lent.{sizes, answer_of, Answer, Shape, size}
 use Rattle.lent.proofs.Laws.{length_tab, length_grid, square_in}
 use Rattle.lent.proofs.Copying.{copied_front}
 use Rattle.lent.proofs.Sizes.{sized_done}
@@ -36,6 +30,7 @@ use Rattle.hcaa.specs.declared.Wanted.{Wanted}
 use Rattle.hcaa.specs.declared.Wanted.TheVariants.{Nothing, Given, Mean, Exponential, Unknown}
 use Rattle.hcaa.specs.Hcaa.{is_mean, is_exponential, hcaa_return_rows, return_columns, hcaa_return_cells, prices_refused, hcaa_covariance_by, rows_judged, sharpe_judged}
 use Rattle.hcaa.specs.Inner.{wanted_by, sizes_of, source_outcome, Sources, Gathered, rest_outcome, Coverable, Hopeful, hopes_of, hoped_for}
+use Rattle.std.specs.Prelude.{Some, Ok, None, Err}
 
 -- ---- stages, each judged by itself
 
@@ -44,11 +39,11 @@ staged a b c x y z u r ex ey ez eu er = let p = first_append a (b ++ c) in let q
 
 -- what the expected returns refuse, by which of them are wanted
 unfoldable pub want_judged : ℕ → ℕ → ℕ → Wanted → Outcome
-want_judged n h len Nothing = Done
-want_judged n h len Given = or_else (not (eqb len n)) DimensionMismatch Done
-want_judged n h len Mean = or_else (eqb h 0) MissingExpectedReturnsForSharpe Done
-want_judged n h len Exponential = or_else (eqb h 0) MissingExpectedReturnsForSharpe Done
-want_judged n h len Unknown = or_else (eqb h 0) MissingExpectedReturnsForSharpe (Refused UnknownReturns)
+want_judged n h len Nothing = Ok tt
+want_judged n h len Given = or_else (not (eqb len n)) DimensionMismatch (Ok tt)
+want_judged n h len Mean = or_else (eqb h 0) MissingExpectedReturnsForSharpe (Ok tt)
+want_judged n h len Exponential = or_else (eqb h 0) MissingExpectedReturnsForSharpe (Ok tt)
+want_judged n h len Unknown = or_else (eqb h 0) MissingExpectedReturnsForSharpe (Err UnknownReturns)
 
 module _ (m : Metric) (given : Bool) (method : List ℕ) (len n h : ℕ) where
   pub want_lines : first (sharpe_judged m given method len n h) ≡ want_judged n h len (wanted_by m given method)
@@ -67,14 +62,10 @@ module _ (m : Metric) (given : Bool) (method : List ℕ) (len n h : ℕ) where
   pub expects : (wanted : Wanted) (r : Outcome) → wanted ≡ wanted_by m given method → r ≡ want_judged n h len wanted → r ≡ first (sharpe_judged m given method len n h)
   expects wanted r e f = f ∙ ap (want_judged n h len) e ∙ sym want_lines
 
-  pub rest_judged : (got : Answer) (w : ℕ) (cs : Shape) (rows expected r : Outcome) → got ≡ answer.Matrix h w → rows ≡ first (rows_judged n h w cs) → expected ≡ first (sharpe_judged m given method len n h)
+  pub rest_judged : (got : Answer) (w : ℕ) (cs : Shape) (rows expected r : Outcome) → got ≡ Ok (size h w) → rows ≡ first (rows_judged n h w cs) → expected ≡ first (sharpe_judged m given method len n h)
       → r ≡ and_then rows expected → r ≡ rest_outcome got n cs len m given method
   unfolding rest_outcome
   rest_judged got w cs rows expected r g a b e = rw (g, e, a, b)
-
-pub rest_refused : (got : Answer) (k : Refusal) (n : ℕ) (cs : Shape) (len : ℕ) (m : Metric) (given : Bool) (method : List ℕ) → got ≡ answer.Refused k → Refused k ≡ rest_outcome got n cs len m given method
-unfolding rest_outcome
-rest_refused got k n cs len m given method g = rw g
 
 -- ---- a list that fits, copied into the front
 
@@ -85,68 +76,68 @@ copied from to after room h e q =
 
 -- ---- the returns
 
-of_sizes : (s : Shape) (len h w : ℕ) → s ≡ Of h w → first (sizes_of s len) ≡ Done → first (sizes len h w) ≡ Done
+of_sizes : (s : Shape) (len h w : ℕ) → s ≡ Some (size h w) → first (sizes_of s len) ≡ Ok tt → first (sizes len h w) ≡ Ok tt
 unfolding sizes_of
 of_sizes s len h w e f = rw e at f
 
-pub given_fits : (said : Outcome) (pl : ℕ) (ps : Shape) (rl : ℕ) (rs : Shape) (h w room : ℕ) → said ≡ Done → rs ≡ Of h w → Sources said pl ps rl rs → room ≡ 4096 → rl ≤ room
+pub given_fits : (said : Outcome) (pl : ℕ) (ps : Shape) (rl : ℕ) (rs : Shape) (h w room : ℕ) → said ≡ Ok tt → rs ≡ Some (size h w) → Sources said pl ps rl rs → room ≡ 4096 → rl ≤ room
 given_fits said pl ps rl rs h w room d q z full = let b = sized_done rl h w (of_sizes rs rl h w q (z.returns d)) in omega (arith, b.small, b.cells)
 
 module _ (said : Outcome) (p : List Float) (ps : Shape) (xs : List Float) (rs : Shape) (s : ℕ) where
-  pub gathered_refused : (r : Answer) (out : List Float) (k : Refusal) → said ≡ Refused k → r ≡ answer_of said 0 0 → Gathered said p ps xs rs s r out
+  pub gathered_refused : (r : Answer) (out : List Float) (k : Refusal) → said ≡ Err k → r ≡ answer_of said 0 0 → Gathered said p ps xs rs s r out
   unfolding source_outcome answer_of
   gathered_refused r out k e f =
-      let o : and_then said (or_else (prices_refused p s rs ps) NoData Done) ≡ Refused k = then_refused said _ k e in
+      let o : and_then said (or_else (prices_refused p s rs ps) NoData (Ok tt)) ≡ Err k = then_refused said _ k e in
       record { answer = f ∙ rw (o, e); cells = λ d. absurd (done_refused k (sym d ∙ o)) }
 
-  module _ (d : said ≡ Done) where
-    pub gathered_given : (h w : ℕ) (out : List Float) → rs ≡ Of h w → Sources said (length p) ps (length xs) rs → take (length xs) out ≡ xs → Gathered said p ps xs rs s (answer.Matrix h w) out
+  module _ (d : said ≡ Ok tt) where
+    pub gathered_given : (h w : ℕ) (out : List Float) → rs ≡ Some (size h w) → Sources said (length p) ps (length xs) rs → take (length xs) out ≡ xs → Gathered said p ps xs rs s (Ok (size h w)) out
     unfolding source_outcome prices_refused hcaa_return_rows hcaa_return_cells return_columns answer_of and_then or_else
     gathered_given h w out q z f =
         let b = sized_done (length xs) h w (of_sizes rs (length xs) h w q (z.returns d)) in
         rw (d, q) record { answer = refl; cells = λ _. rw (← b.cells) f }
 
-    pub gathered_none : (r : Answer) (out : List Float) → rs ≡ Absent → ps ≡ Absent → r ≡ answer_of said 0 0 → Gathered said p ps xs rs s r out
+    pub gathered_none : (r : Answer) (out : List Float) → rs ≡ None → ps ≡ None → r ≡ answer_of said 0 0 → Gathered said p ps xs rs s r out
     unfolding source_outcome prices_refused hcaa_return_rows hcaa_return_cells return_columns answer_of and_then or_else
     gathered_none r out q t f = rw (q, t, d) record { answer = f ∙ rw d; cells = λ _. refl }
 
-    pub gathered_made : (h w room : ℕ) (r : Answer) (out : List Float) → rs ≡ Absent → ps ≡ Of h w → Sources said (length p) ps (length xs) rs → room ≡ 4096
+    pub gathered_made : (h w room : ℕ) (r : Answer) (out : List Float) → rs ≡ None → ps ≡ Some (size h w) → Sources said (length p) ps (length xs) rs → room ≡ 4096
         → r ≡ made_answer p h w s room → out ≡ made_laid p h w s room → Gathered said p ps xs rs s r out
     unfolding source_outcome prices_refused hcaa_return_rows hcaa_return_cells return_columns and_then made_answer
     gathered_made h w room r out q t z full f g =
-        let o : made_outcome p h w s room ≡ or_else (no_returns p h w s) NoData Done = made_judged p h w s room (sized_done (length p) h w (of_sizes ps (length p) h w t (z.prices d))) (omega arith) in
+        let o : made_outcome p h w s room ≡ or_else (no_returns p h w s) NoData (Ok tt) = made_judged p h w s room (sized_done (length p) h w (of_sizes ps (length p) h w t (z.prices d))) (omega arith) in
         rw (d, q, t) record { answer = f ∙ rw o; cells = λ e. made_front p h w s room out (kept_rows h s - 1) g (o ∙ e) refl }
 
 -- ---- the covariance
 
-small : (len h n : ℕ) → first (sizes len h n) ≡ Done → n * n ≤ 4096
+small : (len h n : ℕ) → first (sizes len h n) ≡ Ok tt → n * n ≤ 4096
 small len h n ok = square_in n (sized_done len h n ok).wide
 
-pub covered_fits : (cl len h n : ℕ) (cs : Shape) (room : ℕ) → first (sizes len h n) ≡ Done → Coverable cs cl h n → room ≡ 4096 → absent cs ≡ false → cl ≤ room
+pub covered_fits : (cl len h n : ℕ) (cs : Shape) (room : ℕ) → first (sizes len h n) ≡ Ok tt → Coverable cs cl h n → room ≡ 4096 → absent cs ≡ false → cl ≤ room
 covered_fits cl len h n cs room ok z full t = omega (arith, z.cells t, small len h n ok)
 
-module _ (c xs : List Float) (h n : ℕ) (cs : Shape) (ok : first (sizes (length xs) h n) ≡ Done) (z : Coverable cs (length c) h n) where
+module _ (c xs : List Float) (h n : ℕ) (cs : Shape) (ok : first (sizes (length xs) h n) ≡ Ok tt) (z : Coverable cs (length c) h n) where
   pub covered_given : (out : List Float) → absent cs ≡ false → take (length c) out ≡ c → take (n * n) out ≡ hcaa_covariance_by c xs h n cs
   unfolding hcaa_covariance_by absent
   covered_given out t f = rw (← z.cells t) (f ∙ go cs t)
     where
       go : (a : Shape) → absent a ≡ false → c ≡ hcaa_covariance_by c xs h n a
-      go (Of i j) e = refl
-      go Absent e = absurd (let b : ◌≡◌ {A = ℕ} 0 1 = cc in omega arith)
+      go (Some s) e = refl
+      go None e = absurd (let b : ◌≡◌ {A = ℕ} 0 1 = cc in omega arith)
 
   pub covered_made : (room : ℕ) (out : List Float) → room ≡ 4096 → absent cs ≡ true → out ≡ covariances xs h n room → take (n * n) out ≡ hcaa_covariance_by c xs h n cs
   unfolding hcaa_covariance_by absent covariances or_else
   covered_made room out full t f =
-      let o : covariance_outcome xs h n room ≡ Done = covariance_sized xs h n room ok ∙ rw (le-ltb room (n * n) (omega (arith, small (length xs) h n ok)), le-ltb h 2 (z.enough t)) in
+      let o : covariance_outcome xs h n room ≡ (Ok tt) = covariance_sized xs h n room ok ∙ rw (le-ltb room (n * n) (omega (arith, small (length xs) h n ok)), le-ltb h 2 (z.enough t)) in
       laid_front pz _ room (n * n) _ out f o (length_grid n n (covariance_cell xs h n)) ∙ go cs t
     where
       go : (a : Shape) → absent a ≡ true → grid n n (covariance_cell xs h n) ≡ hcaa_covariance_by c xs h n a
-      go (Of i j) e = absurd (let b : ◌≡◌ {A = ℕ} 0 1 = cc in omega arith)
-      go Absent e = refl
+      go (Some s) e = absurd (let b : ◌≡◌ {A = ℕ} 0 1 = cc in omega arith)
+      go None e = refl
 
 -- ---- the expected returns
 
-pub hoped_fits : (el n : ℕ) (wanted : Wanted) (len h room : ℕ) → Hopeful el wanted n → wanted ≡ Given → room ≡ 64 → first (sizes len h n) ≡ Done → el ≤ room
+pub hoped_fits : (el n : ℕ) (wanted : Wanted) (len h room : ℕ) → Hopeful el wanted n → wanted ≡ Given → room ≡ 64 → first (sizes len h n) ≡ Ok tt → el ≤ room
 hoped_fits el n wanted len h room z t full ok = omega (arith, z.whole t, (sized_done len h n ok).wide)
 
 module _ (e xs : List Float) (h n : ℕ) (wanted : Wanted) where
@@ -165,8 +156,8 @@ module _ (e xs : List Float) (h n : ℕ) (wanted : Wanted) where
   unfolding hoped_for hopes_of
   hoped_given out t z f = let f' : take n out ≡ e = rw (z.whole t) at f in rw t (refl, f')
 
-  module _ (room : ℕ) (out : List Float) (full : room ≡ 64) (ok : first (sizes (length xs) h n) ≡ Done) where
-    expected_done : expected_outcome xs h n room ≡ Done
+  module _ (room : ℕ) (out : List Float) (full : room ≡ 64) (ok : first (sizes (length xs) h n) ≡ Ok tt) where
+    expected_done : expected_outcome xs h n room ≡ Ok tt
     unfolding or_else
     expected_done = expected_sized xs h n room ok ∙ rw (le-ltb room n (omega (arith, (sized_done (length xs) h n ok).wide)))
 

@@ -1,11 +1,8 @@
 -- HCAA: what `allocate` answers, and what it leaves in each lent buffer, for every input. Document 01, "Order", HCAA; document 02, request 1. Definitions only.
-use Rattle.std.specs.Prelude.{ℕ, ◌-◌, ◌*◌, ◌≡◌, Bool, true, false, not, ◌&&◌, cond, List, [], ◌∷◌, ◌++◌, ltb, eqb, length, take, Float}
-use Rattle.refusal.specs.Table.{Line, first}
+use Rattle.std.specs.Prelude.{ℕ, ◌-◌, ◌*◌, ◌≡◌, Bool, true, false, not, ◌&&◌, cond, List, [], ◌∷◌, ◌++◌, ltb, eqb, length, take, Float, Some, Ok, None, Err}
+use Rattle.refusal.specs.Table.{Line, first, Outcome}
 use Rattle.refusal.specs.declared.Refusal.TheVariants.{NoData, UnknownAllocationMetric, DimensionMismatch, UnknownReturns}
-use Rattle.refusal.specs.declared.Outcome.{Outcome}
 use Rattle.lent.specs.Grid.{grid, tab}
-use Rattle.lent.specs.declared.Shape.{Shape}
-use Rattle.lent.specs.declared.Shape.TheVariants.{Absent, Of}
 use Rattle.text.specs.Bytes.{bytes, is_word}
 use Rattle.resample.specs.Resample.{step_of, kept_rows}
 use Rattle.inputs.specs.Inputs.{absent, other_size, matrix_lines, no_returns, made_returns}
@@ -15,17 +12,15 @@ use Rattle.linkage.specs.declared.Distance.{Distance}
 use Rattle.linkage.specs.declared.Linkage.{Linkage}
 use Rattle.metrics.specs.declared.Metric.{Metric}
 use Rattle.metrics.specs.declared.Metric.TheVariants.{EqualWeighting}
-use Rattle.metrics.specs.declared.NamedMetric.{NamedMetric}
-use Rattle.metrics.specs.declared.NamedMetric.TheVariants as metric
 use Rattle.sharing.specs.Names.{metric_named}
 use Rattle.sharing.specs.Split.{Inputs}
 use Rattle.tails.specs.Measures.{other_width}
 use Rattle.sharing.specs.Down.{is_sharpe, length_line, lack_line}
-use Rattle.refusal.specs.declared.Outcome.TheVariants.{Done}
 use Rattle.equal.specs.Equal.{EqualShares}
 use Rattle.hierarchy.specs.Hierarchy.{Rule, Room, room_lines, share_lines, HierarchyLaid}
-use Rattle.hcaa.specs.declared.Clusters.{Clusters}
-use Rattle.hcaa.specs.declared.Clusters.TheVariants.{All, Count}
+use Rattle.hcaa.specs.Outcomes.{Clusters}
+use Rattle.lent.specs.Lent.{Shape}
+use Rattle.metrics.specs.Outcomes.{NamedMetric}
 
 -- ---- the call
 
@@ -52,26 +47,26 @@ pub record HcaaJob : Type 0 where
 
 -- how many rows: of prices sampled by a step
 unfoldable pub hcaa_return_rows : ℕ → Shape → Shape → ℕ
-hcaa_return_rows step (Of rows w) p = rows
-hcaa_return_rows step Absent (Of rows w) = kept_rows rows step - 1
-hcaa_return_rows step Absent Absent = 0
+hcaa_return_rows step (Some s) p = s.rows
+hcaa_return_rows step None (Some s) = kept_rows s.rows step - 1
+hcaa_return_rows step None None = 0
 
 unfoldable pub return_columns : Shape → Shape → ℕ
-return_columns (Of rows w) p = w
-return_columns Absent (Of rows w) = w
-return_columns Absent Absent = 0
+return_columns (Some s) p = s.columns
+return_columns None (Some s) = s.columns
+return_columns None None = 0
 
 -- the cells: of prices, or those given
 unfoldable pub hcaa_return_cells : List Float → List Float → ℕ → Shape → Shape → List Float
-hcaa_return_cells prices given step (Of rows w) p = given
-hcaa_return_cells prices given step Absent (Of rows w) = made_returns prices rows w step
-hcaa_return_cells prices given step Absent Absent = []
+hcaa_return_cells prices given step (Some s) p = given
+hcaa_return_cells prices given step None (Some s) = made_returns prices s.rows s.columns step
+hcaa_return_cells prices given step None None = []
 
 -- the price rules: 1
 unfoldable pub prices_refused : List Float → ℕ → Shape → Shape → Bool
-prices_refused prices step (Of rows w) p = false
-prices_refused prices step Absent (Of rows w) = no_returns prices rows w step
-prices_refused prices step Absent Absent = false
+prices_refused prices step (Some s) p = false
+prices_refused prices step None (Some s) = no_returns prices s.rows s.columns step
+prices_refused prices step None None = false
 
 unfoldable pub rows_made : HcaaJob → ℕ
 unfolding hcaa_return_rows
@@ -88,8 +83,8 @@ cells_made j = hcaa_return_cells j.prices j.returns (step_of j.resample_by) j.re
 -- ---- the covariance of n assets: the given one, else that of `rows` rows of returns; by the shape of the given one
 
 unfoldable pub hcaa_covariance_by : List Float → List Float → ℕ → ℕ → Shape → List Float
-hcaa_covariance_by given cells rows n (Of a b) = given
-hcaa_covariance_by given cells rows n Absent = grid n n (covariance_cell cells rows n)
+hcaa_covariance_by given cells rows n (Some s) = given
+hcaa_covariance_by given cells rows n None = grid n n (covariance_cell cells rows n)
 
 unfoldable pub hcaa_covariance : HcaaJob → List Float
 unfolding hcaa_covariance_by rows_made cells_made
@@ -99,16 +94,16 @@ hcaa_covariance j = hcaa_covariance_by j.covariance (cells_made j) (rows_made j)
 
 -- its name read; a name that is refused stands for equal weighting, and is never used
 unfoldable pub metric_of : NamedMetric → Metric
-metric_of (metric.Of m) = m
-metric_of (metric.Refused r) = EqualWeighting
+metric_of (Ok m) = m
+metric_of (Err r) = EqualWeighting
 
 unfoldable pub used_metric : HcaaJob → Metric
 unfolding metric_of
 used_metric j = metric_of (metric_named j.metric)
 
 unfoldable pub unnamed : NamedMetric → Bool
-unnamed (metric.Of m) = false
-unnamed (metric.Refused r) = true
+unnamed (Ok m) = false
+unnamed (Err r) = true
 
 -- ---- the expected returns, which Sharpe alone reads
 
@@ -136,8 +131,8 @@ used_expected j = cond (is_sharpe (used_metric j)) (expected_of j j.expected_giv
 
 -- `-` for all
 unfoldable pub cluster_count : Clusters → ℕ → ℕ
-cluster_count All n = n
-cluster_count (Count k) n = k
+cluster_count None n = n
+cluster_count (Some k) n = k
 
 -- what the metrics read: the expected returns, the rows of returns, and the confidence
 unfoldable pub used_inputs : HcaaJob → Inputs
@@ -207,7 +202,7 @@ hcaa_outcome j room = first (hcaa_table j room)
 
 -- demand 3: an accepted job by equal weighting leaves equal shares, in the front of the rows and of the weights
 pub record Equally (j : HcaaJob) (r : Outcome) (rows : List ℕ) (weights : List Float) : Type 0 where
-  pub shares : r ≡ Done → used_metric j ≡ EqualWeighting
+  pub shares : r ≡ Ok tt → used_metric j ≡ EqualWeighting
       → EqualShares j.assets (cluster_count j.clusters j.assets) (take (2 * (j.assets - 1)) rows) (take j.assets weights)
 
 -- `HierarchyLaid` of the crate hierarchy says what an outcome leaves in each

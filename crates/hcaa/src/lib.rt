@@ -1,25 +1,17 @@
 // Hierarchical clustering-based asset allocation: what is given, the returns, covariance and expected returns made from it where they are not, and the allocation on those.
 #![tactic(auto)]
 
-ghost use Rattle.std.specs.Prelude.{◌≡◌, Bool, List, ℕ, ◌*◌, length, take};
+ghost use Rattle.std.specs.Prelude.{◌≡◌, Bool, List, ℕ, ◌*◌, length, take, Ok};
 ghost use Rattle.refusal.specs.Table.{first};
-ghost use Rattle.refusal.specs.declared.Outcome.TheVariants.{Done};
 ghost use Rattle.lent.specs.Lent.{sizes};
 ghost use Rattle.metrics.specs.declared.Metric.{Metric};
 ghost use Rattle.hcaa.specs.Hcaa.{hcaa_covariance_by, metric_of, unnamed, cluster_count, names_judged, rows_judged, sharpe_judged, HcaaAllocated};
 ghost use Rattle.hcaa.specs.Inner.{wanted_by, height_of, hcaa_judge_table, rest_outcome, Sources, Gathered, Coverable, Hopeful, hopes_of, hoped_for};
 
-use lent::{Answer, Shape};
+use lent::Size;
 use linkage::{Distance, Linkage};
-use refusal::{Outcome, Refusal};
-use sharing::{Metric, NamedMetric};
-
-// Into how many clusters the tree is cut.
-#[derive(Clone, Copy)]
-pub enum Clusters {
-    All,
-    Count(usize),
-}
+use refusal::Refusal;
+use sharing::Metric;
 
 // Which expected returns a call reads: Sharpe alone reads any, and estimates them by a method where none are given.
 #[derive(Clone, Copy)]
@@ -31,6 +23,7 @@ enum Wanted {
     Unknown,
 }
 
+#[tactic(auto, unfolding(crate::specs::Inner::wanted_by, crate::specs::Hcaa::is_mean, crate::specs::Hcaa::is_exponential))]
 fn wanted_by(metric: Metric, given: bool, method: &[u8]) -> Wanted
     ensures { result ≡ wanted_by metric given method.now }
 {
@@ -50,83 +43,66 @@ fn wanted_by(metric: Metric, given: bool, method: &[u8]) -> Wanted
     Wanted::Unknown
 }
 
-fn is_unnamed(read: NamedMetric) -> bool
-    ensures { result ≡ unnamed read }
-{
-    match read {
-        NamedMetric::Of(_) => false,
-        NamedMetric::Refused(_) => true,
-    }
-}
-
 // The metric of a name; of one that is refused, equal weighting, which is never used.
-fn metric_of(read: NamedMetric) -> Metric
+#[tactic(auto, unfolding(crate::specs::Hcaa::metric_of))]
+fn metric_of(read: Result<Metric, Refusal>) -> Metric
     ensures { result ≡ metric_of read }
 {
-    match read {
-        NamedMetric::Of(metric) => metric,
-        NamedMetric::Refused(_) => Metric::EqualWeighting,
-    }
+    read.unwrap_or(Metric::EqualWeighting)
 }
 
-fn count_of(clusters: Clusters, n: usize) -> usize
+#[tactic(auto, unfolding(crate::specs::Hcaa::cluster_count))]
+fn count_of(clusters: Option<usize>, n: usize) -> usize
     ensures { result ≡ cluster_count clusters n }
 {
-    match clusters {
-        Clusters::All => n,
-        Clusters::Count(k) => k,
-    }
+    clusters.unwrap_or(n)
 }
 
 // The rows of a matrix that was made, 0 where it was refused.
-fn height_of(answer: Answer) -> usize
+#[tactic(auto, unfolding(crate::specs::Inner::height_of))]
+fn height_of(answer: Result<Size, Refusal>) -> usize
     ensures { result ≡ height_of answer }
 {
-    match answer {
-        Answer::Matrix { rows, columns: _ } => rows,
-        Answer::Refused(_) => 0,
-    }
+    answer.map_or(0, |s| s.rows)
 }
 
 // No matrix, the metric, no assets.
+#[tactic(auto, using(std::proofs::lemmas::Bool::Decides::nat_tests), unfolding(crate::specs::Hcaa::names_judged, crate::specs::Hcaa::unnamed, refusal::specs::Table::first, refusal::specs::Table::or_else))]
 fn judge_names(
     n: usize,
-    prices: Shape,
-    returns: Shape,
-    covariance: Shape,
-    metric: NamedMetric,
-) -> Outcome
+    prices: Option<Size>,
+    returns: Option<Size>,
+    covariance: Option<Size>,
+    metric: Result<Metric, Refusal>,
+) -> Result<(), Refusal>
     ensures { result ≡ first (names_judged n prices returns covariance metric) }
 {
-    let alone = refusal::both(inputs::is_absent(returns), inputs::is_absent(covariance));
-    let o = refusal::refuse(n == 0, Refusal::NoData, Outcome::Done);
-    let o = refusal::refuse(is_unnamed(metric), Refusal::UnknownAllocationMetric, o);
-    refusal::refuse(
-        refusal::both(inputs::is_absent(prices), alone),
-        Refusal::NoData,
-        o,
-    )
+    let alone = inputs::is_absent(returns) && inputs::is_absent(covariance);
+    refusal::refuse(inputs::is_absent(prices) && alone, Refusal::NoData)?;
+    refusal::refuse(metric.is_err(), Refusal::UnknownAllocationMetric)?;
+    refusal::refuse(n == 0, Refusal::NoData)
 }
 
 // What the sizes, the shapes and the metric's name alone refuse.
+#[tactic(auto, using(refusal::proofs::Tables::first_append), unfolding(crate::specs::Inner::hcaa_judge_table, refusal::specs::Table::and_then))]
 fn judge(
     n: usize,
-    prices: Shape,
+    prices: Option<Size>,
     prices_len: usize,
-    returns: Shape,
+    returns: Option<Size>,
     returns_len: usize,
-    covariance: Shape,
+    covariance: Option<Size>,
     covariance_len: usize,
-    metric: NamedMetric,
+    metric: Result<Metric, Refusal>,
     rows: usize,
     order: usize,
     weights: usize,
     scratch: usize,
-) -> Outcome
+) -> Result<(), Refusal>
     ensures { result ≡ first (hcaa_judge_table n prices prices_len returns returns_len covariance covariance_len metric
         (record { rows = rows; order = order; weights = weights; scratch = scratch })) }
 {
-    let matrices = inputs::judge_matrices(
+    inputs::judge_matrices(
         n,
         prices,
         prices_len,
@@ -134,96 +110,87 @@ fn judge(
         returns_len,
         covariance,
         covariance_len,
-    );
-    let rooms = rooms::judge_rooms(n, rows, order, weights, scratch);
-    let names = judge_names(n, prices, returns, covariance, metric);
-    refusal::and_then(matrices, refusal::and_then(rooms, names))
+    )?;
+    rooms::judge_rooms(n, rows, order, weights, scratch)?;
+    judge_names(n, prices, returns, covariance, metric)
 }
 
 // The columns of `height` rows of returns, too few rows for a covariance, the size of a given one.
-fn judge_rows(n: usize, height: usize, columns: usize, covariance: Shape) -> Outcome
+#[tactic(auto, using(std::proofs::lemmas::Bool::Decides::nat_tests), unfolding(crate::specs::Hcaa::rows_judged, tails::specs::Measures::other_width, refusal::specs::Table::first, refusal::specs::Table::or_else))]
+fn judge_rows(
+    n: usize,
+    height: usize,
+    columns: usize,
+    covariance: Option<Size>,
+) -> Result<(), Refusal>
     ensures { result ≡ first (rows_judged n height columns covariance) }
 {
-    let o = refusal::refuse(
+    refusal::refuse(0 < height && columns != n, Refusal::DimensionMismatch)?;
+    refusal::refuse(inputs::is_absent(covariance) && height < 2, Refusal::NoData)?;
+    refusal::refuse(
         inputs::has_other_size(covariance, n),
         Refusal::DimensionMismatch,
-        Outcome::Done,
-    );
-    let o = refusal::refuse(
-        refusal::both(inputs::is_absent(covariance), height < 2),
-        Refusal::NoData,
-        o,
-    );
-    refusal::refuse(
-        refusal::both(0 < height, columns != n),
-        Refusal::DimensionMismatch,
-        o,
     )
 }
 
 // The wanted expected returns: given but not one for each asset, no rows to estimate them from, an unknown method.
-fn judge_expected(n: usize, height: usize, expected: usize, wanted: Wanted) -> Outcome
+#[tactic(auto, using(crate::proofs::Stages::expects), unfolding(crate::proofs::Stages::want_judged, refusal::specs::Table::or_else))]
+fn judge_expected(n: usize, height: usize, expected: usize, wanted: Wanted) -> Result<(), Refusal>
     ensures { (m : Metric) (given : Bool) (method : List ℕ) → wanted ≡ wanted_by m given method
         → result ≡ first (sharpe_judged m given method expected n height) }
 {
     let missing = Refusal::MissingExpectedReturnsForSharpe;
-    let unknown = Outcome::Refused(Refusal::UnknownReturns);
     match wanted {
-        Wanted::Nothing => Outcome::Done,
-        Wanted::Given => {
-            refusal::refuse(expected != n, Refusal::DimensionMismatch, Outcome::Done)
+        Wanted::Nothing => Ok(()),
+        Wanted::Given => refusal::refuse(expected != n, Refusal::DimensionMismatch),
+        Wanted::Mean => refusal::refuse(height == 0, missing),
+        Wanted::Exponential => refusal::refuse(height == 0, missing),
+        Wanted::Unknown => {
+            refusal::refuse(height == 0, missing)?;
+            Err(Refusal::UnknownReturns)
         }
-        Wanted::Mean => refusal::refuse(height == 0, missing, Outcome::Done),
-        Wanted::Exponential => refusal::refuse(height == 0, missing, Outcome::Done),
-        Wanted::Unknown => refusal::refuse(height == 0, missing, unknown),
     }
 }
 
 // What is refused once the returns are there, or were refused themselves.
+#[tactic(auto, using(crate::proofs::Stages::rest_judged), unfolding(crate::specs::Inner::rest_outcome, refusal::specs::Table::and_then))]
 fn judge_gathered(
-    returns: Answer,
+    returns: Result<Size, Refusal>,
     n: usize,
-    covariance: Shape,
+    covariance: Option<Size>,
     expected: usize,
     wanted: Wanted,
-) -> Outcome
+) -> Result<(), Refusal>
     ensures { (m : Metric) (given : Bool) (method : List ℕ) → wanted ≡ wanted_by m given method
         → result ≡ rest_outcome returns n covariance expected m given method }
 {
-    match returns {
-        Answer::Matrix {
-            rows: height,
-            columns,
-        } => {
-            let rows = judge_rows(n, height, columns, covariance);
-            refusal::and_then(rows, judge_expected(n, height, expected, wanted))
-        }
-        Answer::Refused(r) => Outcome::Refused(r),
-    }
+    let made = returns?;
+    judge_rows(n, made.rows, made.columns, covariance)?;
+    judge_expected(n, made.rows, expected, wanted)
 }
 
 // The returns of a call that is not refused so far, at the front of `out`: those that are given, else made from the prices, else none.
 fn gather_returns(
-    said: Outcome,
+    said: Result<(), Refusal>,
     prices: &[f64],
-    prices_shape: Shape,
+    prices_shape: Option<Size>,
     returns: &[f64],
-    returns_shape: Shape,
+    returns_shape: Option<Size>,
     step: usize,
     out: &mut [f64],
-) -> Answer
+) -> Result<Size, Refusal>
     requires out_len { length out.old ≡ 4096 }
     requires sources { Sources said (length prices.now) prices_shape (length returns.now) returns_shape }
     ensures { Gathered said prices.now prices_shape returns.now returns_shape step result out.new }
 {
-    let Outcome::Done = said else {
+    let Ok(()) = said else {
         return lent::answered(said, 0, 0);
     };
-    if let Shape::Of { rows, columns } = returns_shape {
+    if let Some(Size { rows, columns }) = returns_shape {
         lent::copy(returns, out);
-        return Answer::Matrix { rows, columns };
+        return Ok(Size { rows, columns });
     }
-    let Shape::Of { rows, columns } = prices_shape else {
+    let Some(Size { rows, columns }) = prices_shape else {
         return lent::answered(said, 0, 0);
     };
     inputs::sampled_returns(prices, rows, columns, step, out)
@@ -232,19 +199,19 @@ fn gather_returns(
 // The covariance of n assets, at the front of `out`: the given one, else that of the returns.
 fn gather_covariance(
     covariance: &[f64],
-    covariance_shape: Shape,
+    covariance_shape: Option<Size>,
     returns: &[f64],
     height: usize,
     n: usize,
     out: &mut [f64],
 )
     requires out_len { length out.old ≡ 4096 }
-    requires n_value { first (sizes (length returns.now) height n) ≡ Done }
+    requires n_value { first (sizes (length returns.now) height n) ≡ Ok tt }
     requires coverable { Coverable covariance_shape (length covariance.now) height n }
     ensures { take (n * n) out.new ≡ hcaa_covariance_by covariance.now returns.now height n covariance_shape }
 {
     if inputs::is_absent(covariance_shape) {
-        stats::covariance(returns, height, n, out);
+        let _ = stats::covariance(returns, height, n, out);
         return;
     }
     lent::copy(covariance, out);
@@ -260,7 +227,7 @@ fn gather_expected(
     out: &mut [f64],
 ) -> usize
     requires out_len { length out.old ≡ 64 }
-    requires n_value { first (sizes (length returns.now) height n) ≡ Done }
+    requires n_value { first (sizes (length returns.now) height n) ≡ Ok tt }
     requires hopeful { Hopeful (length expected.now) wanted n }
     ensures value { result ≡ hopes_of wanted n }
     ensures out_after { take result out.new ≡ hoped_for expected.now returns.now height n wanted }
@@ -272,11 +239,11 @@ fn gather_expected(
             n
         }
         Wanted::Mean => {
-            stats::mean_expected_returns(returns, height, n, out);
+            let _ = stats::mean_expected_returns(returns, height, n, out);
             n
         }
         Wanted::Exponential => {
-            stats::exponential_expected_returns(returns, height, n, out);
+            let _ = stats::exponential_expected_returns(returns, height, n, out);
             n
         }
         Wanted::Unknown => 0,
@@ -287,17 +254,17 @@ fn gather_expected(
 pub fn allocate(
     assets: usize,
     prices: &[f64],
-    prices_shape: Shape,
+    prices_shape: Option<Size>,
     returns: &[f64],
-    returns_shape: Shape,
+    returns_shape: Option<Size>,
     covariance: &[f64],
-    covariance_shape: Shape,
+    covariance_shape: Option<Size>,
     expected: &[f64],
     expected_given: bool,
     metric: &[u8],
     method: &[u8],
     confidence: f64,
-    clusters: Clusters,
+    clusters: Option<usize>,
     resample_by: &[u8],
     distance: Distance,
     linkage: Linkage,
@@ -305,7 +272,7 @@ pub fn allocate(
     order: &mut [usize],
     weights: &mut [f64],
     scratch: &mut [f64],
-) -> Outcome
+) -> Result<(), Refusal>
     ensures { HcaaAllocated
         (record {
           assets = assets;
@@ -362,7 +329,7 @@ pub fn allocate(
         &mut made,
     );
     let said = judge_gathered(got, assets, covariance_shape, expected.len(), wanted);
-    let Outcome::Done = said else {
+    let Ok(()) = said else {
         rooms::clear_all(rows, order, weights, scratch);
         return said;
     };

@@ -5,9 +5,7 @@ use mathlib.Core.Bool.{Bool, true, cond, ◌&&◌}
 use mathlib.Core.List.{List, [], ◌∷◌}
 use lib.Dec.{eqb}
 use Rattle.refusal.specs.Refusal.{number_of}
-use Rattle.refusal.specs.Table.{first}
-use Rattle.refusal.specs.declared.Outcome.{Outcome}
-use Rattle.refusal.specs.declared.Outcome.TheVariants as outcome
+use Rattle.refusal.specs.Table.{first, Outcome}
 use Rattle.text.specs.Bytes.{bytes, same, lower, lowered, is_word}
 use Rattle.fields.specs.Split.{onto, split, all as every}
 use Rattle.fields.specs.Numerals.{digit, number, is_numeral, numeral_read}
@@ -19,8 +17,9 @@ use Rattle.linkage.specs.declared.Linkage.TheVariants.{Single, Complete, Average
 use Rattle.heading.specs.Heading.{clusters_of, prices_after, ceilings_after, is_of, is_hrp, is_hcaa, own_fields, is_priced, is_ceiled, distance_field, unknown_lines, head_lines, head_outcome, head_of}
 use Rattle.heading.specs.declared.Asked.{Asked}
 use Rattle.heading.specs.declared.Asked.TheVariants as asked
-use Rattle.heading.specs.declared.Heading.{Heading}
-use Rattle.heading.specs.declared.Heading.TheVariants as heading
+use Rattle.std.specs.Prelude.{Ok, Err}
+use Rattle.heading.specs.Outcomes.{Heading}
+use Rattle.heading.specs.declared.Task.TheVariants as task
 
 abbrev all : List Bool → Bool
 all [] = true
@@ -59,17 +58,17 @@ linkages Average = 3000
 linkages Ward = 4000
 
 abbrev told : Heading → ℕ
-told (heading.Refused r) = number_of r
-told (heading.Hrp d) = distances d
-told (heading.Hcaa l d) = linkages l + distances d
+told (Err r) = number_of r
+told (Ok (task.Hrp d)) = distances d
+told (Ok (task.Hcaa l d)) = linkages l + distances d
 
 abbrev heads : List ℕ → ℕ
 heads l = told (head_of l) + cond (is_priced l) 10000 0 + cond (is_ceiled l) 20000 0
 
 -- the table says the same number
 abbrev tabled : Outcome → ℕ
-tabled outcome.Done = 0
-tabled (outcome.Refused r) = number_of r
+tabled (Ok _) = 0
+tabled (Err r) = number_of r
 
 abbrev refused : List ℕ → ℕ → Bool
 refused l k = eqb (heads l) k && eqb (tabled (head_outcome l)) k

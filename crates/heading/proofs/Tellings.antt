@@ -3,18 +3,17 @@ use mathlib.Core.Path.{◌≡◌, refl, ap, ◌∙◌}
 use mathlib.Core.Bool.{not}
 use mathlib.Core.List.{List, [], ◌∷◌}
 use Prim.Native.Nat.{ℕ}
-use Rattle.refusal.specs.Table.{first}
+use Rattle.refusal.specs.Table.{first, Outcome}
 use Rattle.refusal.specs.Telling.{tells}
 use Rattle.refusal.specs.declared.Refusal.{Refusal}
 use Rattle.refusal.specs.declared.Refusal.TheVariants.{MalformedText}
-use Rattle.refusal.specs.declared.Outcome.{Outcome}
-use Rattle.refusal.specs.declared.Outcome.TheVariants as outcome
 use Rattle.heading.specs.Heading.{clusters_of, well_asked, asked_outcome, asked_tells, head_outcome, head_of, head_tells}
 use Rattle.heading.specs.declared.Asked.{Asked}
 use Rattle.heading.specs.declared.Asked.TheVariants as asked
-use Rattle.heading.specs.declared.Heading.{Heading}
-use Rattle.heading.specs.declared.Heading.TheVariants as heading
 use Rattle.heading.proofs.Judged.{head_as, head_is, head_kept}
+use Rattle.std.specs.Prelude.{Ok, Err}
+use Rattle.heading.specs.Outcomes.{Heading}
+use Rattle.heading.specs.declared.Task.TheVariants as task
 
 -- 0 and what is asked for, or 15
 pub asked_tells_lem : (w : List ℕ) → asked_tells (clusters_of w) ≡ tells (asked_outcome w) (clusters_of w)
@@ -26,11 +25,11 @@ asked_tells_lem w = go (clusters_of w)
     go asked.All = refl
     go (asked.Count k) = refl
 
-told_as : (o : Outcome) (h : Heading) → ((k : Refusal) → o ≡ outcome.Done → h ≡ heading.Refused k → ⊥) → head_tells (head_as o h) ≡ tells o h
-told_as outcome.Done (heading.Refused k) n = absurd (n k refl refl)
-told_as outcome.Done (heading.Hrp d) n = refl
-told_as outcome.Done (heading.Hcaa l d) n = refl
-told_as (outcome.Refused r) h n = refl
+told_as : (o : Outcome) (h : Heading) → ((k : Refusal) → o ≡ Ok tt → h ≡ Err k → ⊥) → head_tells (head_as o h) ≡ tells o h
+told_as (Ok _) (Err k) n = absurd (n k refl refl)
+told_as (Ok _) (Ok (task.Hrp d)) n = refl
+told_as (Ok _) (Ok (task.Hcaa l d)) n = refl
+told_as (Err r) h n = refl
 
 -- 0 and what the line asks for, or the number of what refuses it
 pub head_tells_lem : (l : List ℕ) → head_tells (head_of l) ≡ tells (head_outcome l) (head_of l)

@@ -1,24 +1,19 @@
 -- Document 01, "Millionths and the job program": the first line of a job text. Document 02, requests 8 and 10: its last fields `prices` and `ceilings`. Definitions only.
-use Rattle.std.specs.Prelude.{ℕ, ◌+◌, Bool, true, false, not, cond, ◌&&◌, ◌||◌, List, [], ◌∷◌, ltb, eqb, length}
-use Rattle.refusal.specs.Table.{Line, first}
+use Rattle.std.specs.Prelude.{ℕ, ◌+◌, Bool, true, false, not, cond, ◌&&◌, ◌||◌, List, [], ◌∷◌, ltb, eqb, length, Some, Ok, None, Err}
+use Rattle.refusal.specs.Table.{Line, first, Outcome}
 use Rattle.refusal.specs.Telling.{Telling, accepts, refuses}
 use Rattle.refusal.specs.declared.Refusal.TheVariants.{UnknownDistance, UnknownLinkage, MalformedText}
-use Rattle.refusal.specs.declared.Outcome.{Outcome}
 use Rattle.text.specs.Bytes.{bytes, same}
 use Rattle.lent.specs.Count.{one}
 use Rattle.fields.specs.Split.{tabulator, split, piece, last_piece}
 use Rattle.fields.specs.Numerals.{numeral_read}
-use Rattle.fields.specs.declared.Numeral.{Numeral}
-use Rattle.fields.specs.declared.Numeral.TheVariants as numeral
 use Rattle.linkage.specs.Names.{distance_named, linkage_named}
-use Rattle.linkage.specs.declared.NamedDistance.{NamedDistance}
-use Rattle.linkage.specs.declared.NamedDistance.TheVariants as distance
-use Rattle.linkage.specs.declared.NamedLinkage.{NamedLinkage}
-use Rattle.linkage.specs.declared.NamedLinkage.TheVariants as linkage
 use Rattle.heading.specs.declared.Asked.{Asked}
 use Rattle.heading.specs.declared.Asked.TheVariants as asked
-use Rattle.heading.specs.declared.Heading.{Heading}
-use Rattle.heading.specs.declared.Heading.TheVariants as heading
+use Rattle.fields.specs.Outcomes.{Numeral}
+use Rattle.heading.specs.Outcomes.{Heading}
+use Rattle.linkage.specs.Outcomes.{NamedDistance, NamedLinkage}
+use Rattle.heading.specs.declared.Task.TheVariants as task
 
 -- "fields parted by tabs": field k of a line, counted from 0
 abbrev pub field : List ℕ → ℕ → List ℕ
@@ -33,8 +28,8 @@ last_field l = last_piece tabulator l
 -- ---- "First line: `hrp` and distance; or `hcaa`, metric, linkage, distance, clusters (1 to 9 digits, or `-` for all)."
 
 abbrev pub asked_by : Numeral → Asked
-asked_by (numeral.Of k) = asked.Count k
-asked_by numeral.Malformed = asked.Malformed
+asked_by (Some k) = asked.Count k
+asked_by None = asked.Malformed
 
 unfoldable pub clusters_of : List ℕ → Asked
 unfolding same
@@ -96,12 +91,12 @@ is_ceiled l = ceilings_after (own_fields l) l
 -- ---- refusals: "15, 8, 7"
 
 abbrev pub known_distance : NamedDistance → Bool
-known_distance (distance.Of d) = true
-known_distance (distance.Refused r) = false
+known_distance (Ok d) = true
+known_distance (Err r) = false
 
 abbrev pub known_linkage : NamedLinkage → Bool
-known_linkage (linkage.Of l) = true
-known_linkage (linkage.Refused r) = false
+known_linkage (Ok l) = true
+known_linkage (Err r) = false
 
 -- the distance is the second field of an `hrp` line and the fourth of an `hcaa` line
 unfoldable pub distance_field : List ℕ → List ℕ
@@ -127,13 +122,13 @@ head_outcome l = first (head_lines l)
 -- ---- the answer
 
 abbrev pub hrp_asked : NamedDistance → Heading
-hrp_asked (distance.Of d) = heading.Hrp d
-hrp_asked (distance.Refused r) = heading.Refused r
+hrp_asked (Ok d) = Ok (task.Hrp d)
+hrp_asked (Err r) = Err r
 
 abbrev pub hcaa_asked : NamedLinkage → NamedDistance → Heading
-hcaa_asked (linkage.Of l) (distance.Of d) = heading.Hcaa l d
-hcaa_asked (linkage.Of l) (distance.Refused r) = heading.Refused r
-hcaa_asked (linkage.Refused r) d = heading.Refused r
+hcaa_asked (Ok l) (Ok d) = Ok (task.Hcaa l d)
+hcaa_asked (Ok l) (Err r) = Err r
+hcaa_asked (Err r) d = Err r
 
 -- what a first line asks for
 unfoldable pub head_of : List ℕ → Heading
@@ -141,10 +136,10 @@ unfolding is_hrp is_hcaa split distance_named linkage_named
 head_of l =
     cond (is_hrp l) (hrp_asked (distance_named (field l 1)))
     (cond (is_hcaa l) (hcaa_asked (linkage_named (field l 2)) (distance_named (field l 3)))
-    (heading.Refused MalformedText))
+    (Err MalformedText))
 
 -- what the answer tells: 0 and the job, or the refusal's number
 abbrev pub head_tells : Heading → Telling Heading
-head_tells (heading.Refused r) = refuses r
-head_tells (heading.Hrp d) = accepts (heading.Hrp d)
-head_tells (heading.Hcaa l d) = accepts (heading.Hcaa l d)
+head_tells (Err r) = refuses r
+head_tells (Ok (task.Hrp d)) = accepts (Ok (task.Hrp d))
+head_tells (Ok (task.Hcaa l d)) = accepts (Ok (task.Hcaa l d))

@@ -11,9 +11,7 @@ use Rattle.arithmetic.specs.Constants.{pz}
 use Rattle.arithmetic.specs.Arithmetic.{min_of, max_of, abs_of, clamp_of, finite_of, count_of, one_over}
 use Rattle.arithmetic.specs.Root.{isqrt, root}
 use Rattle.refusal.specs.Refusal.{number_of, values_of}
-use Rattle.refusal.specs.Table.{first}
-use Rattle.refusal.specs.declared.Outcome.{Outcome}
-use Rattle.refusal.specs.declared.Outcome.TheVariants as outcome
+use Rattle.refusal.specs.Table.{first, Outcome}
 use Rattle.lent.specs.Grid.{tab, grid, sum_to, sum_on, sum_rows, any_to}
 use Rattle.lent.specs.Range.{span, range}
 use Rattle.lent.specs.Lent.{over_limit, other_length, sizes, laid}
@@ -34,6 +32,7 @@ use Rattle.sharing.specs.Split.{Inputs, bounded, split_by, by_risk, scored, spli
 use Rattle.sharing.specs.Allot.{spread_of, equal_of, deal_to, varied_of, inside_of, allotted, down_shares}
 use Rattle.sharing.specs.Down.{is_sharpe, is_tail_risk, metric_tail_lines, other_rows}
 use Rattle.hierarchy.specs.Hierarchy.{Rule, HierarchyCall, Room, hcaa_rows, hcaa_order, hcaa_shares, room_lines, hierarchy_size_lines, hierarchy_shape_lines, expected_lines, rule_lines, hierarchy_judge_table, hcaa_risk_lines, hierarchy_table, hierarchy_outcome, square_lines}
+use Rattle.std.specs.Prelude.{Ok, Err}
 
 abbrev all : List Bool → Bool
 all [] = true
@@ -50,8 +49,8 @@ doubles bits = map (of_bits binary64) bits
 
 -- 0, or the refusal's number and values
 abbrev told : Outcome → List ℕ
-told outcome.Done = 0 ∷ []
-told (outcome.Refused r) = number_of r ∷ values_of r
+told (Ok _) = 0 ∷ []
+told (Err r) = number_of r ∷ values_of r
 
 -- the buffers that n assets take
 abbrev room : ℕ → Room

@@ -1,20 +1,18 @@
 // Hierarchical clustering asset allocation on a given covariance.
 #![tactic(auto)]
 
-ghost use Rattle.std.specs.Prelude.{◌≡◌, ◌≤◌, length};
-ghost use Rattle.refusal.specs.declared.Outcome.TheVariants.{Done};
-ghost use Rattle.lent.specs.Grid.{over};
+ghost use Rattle.std.specs.Prelude.{◌≡◌, ◌≤◌, length, Ok};
 ghost use Rattle.lent.specs.Lent.{laid};
 ghost use Rattle.hierarchy.specs.Hierarchy.{HierarchyAnswered};
-ghost use Rattle.hierarchy.specs.Inner.{Sown, Ground, Planted};
+ghost use Rattle.hierarchy.specs.Inner.{Ground, Planted, HierarchyWorked};
 
 use distances::Measure;
 use linkage::{Distance, Linkage};
-use refusal::Outcome;
+use refusal::Refusal;
 use sharing::Metric;
 
 // The tree of a covariance and its leaf order, at the fronts of two arrays; refuses a variance. Both matrices stand in the fronts of two rooms: the calls clear all that they are lent.
-// The distances wait in the scratch: the sharing, or a refusal, leaves it zero.
+// The distances wait in the scratch: the sharing leaves it zero.
 fn plant_in(
     covariance: &[f64],
     n: usize,
@@ -24,15 +22,12 @@ fn plant_in(
     scratch: &mut [f64],
     tree: &mut [usize],
     leaves: &mut [usize],
-) -> Outcome
+) -> Result<(), Refusal>
     requires { Ground (length covariance.now) n (length corr.old) (length scratch.old) (length tree.old) (length leaves.old) }
-    ensures { Planted Done distance linkage covariance.now n result tree.new leaves.new }
+    ensures { Planted (Ok tt) distance linkage covariance.now n result tree.new leaves.new }
 {
     let m = n * n;
-    let low = lent::told(stats::cov2corr(covariance, n, n, &mut corr[..m]));
-    let Outcome::Done = low else {
-        return low;
-    };
+    stats::cov2corr(covariance, n, n, &mut corr[..m])?;
     arranging::arrange(
         Measure::Hcaa,
         distance,
@@ -43,13 +38,11 @@ fn plant_in(
         tree,
         leaves,
         &mut scratch[..m],
-    );
-    low
+    )
 }
 
-// The same, unless something is refused before. Few assets have a room of their own: the zeros of a large one would take longer than they do.
+// The same. Few assets have a room of their own: the zeros of a large one would take longer than they do.
 fn plant(
-    said: Outcome,
     covariance: &[f64],
     n: usize,
     distance: Distance,
@@ -57,15 +50,10 @@ fn plant(
     tree: &mut [usize],
     leaves: &mut [usize],
     scratch: &mut [f64],
-) -> Outcome
-    requires tree_len { length tree.old ≡ 126 }
-    requires leaves_len { length leaves.old ≡ 64 }
-    requires sown { Sown said (length covariance.now) n (length scratch.old) }
-    ensures { Planted said distance linkage covariance.now n result tree.new leaves.new }
+) -> Result<(), Refusal>
+    requires { Ground (length covariance.now) n 4096 (length scratch.old) (length tree.old) (length leaves.old) }
+    ensures { Planted (Ok tt) distance linkage covariance.now n result tree.new leaves.new }
 {
-    let Outcome::Done = said else {
-        return said;
-    };
     if n <= 16 {
         let mut corr = [0.0; 256];
         return plant_in(
@@ -78,27 +66,105 @@ fn plant(
     )
 }
 
-// Every entry, over the front of `to`.
-fn copy_numbers(from: &[usize], to: &mut [usize])
+// The numbers in the front of `to`, and zeros.
+fn lay(from: &[usize], to: &mut [usize])
     requires { length from.now ≤ length to.old }
-    ensures { to.new ≡ over from.now to.old }
+    ensures { to.new ≡ laid 0 (Ok tt) (length to.old) from.now }
 {
-    let mut k = 0;
-    while k < from.len() {
-        to[k] = from[k];
-        k += 1;
-    }
+    lent::clear(to);
+    to[..from.len()].copy_from_slice(from);
 }
 
-// The numbers in the front of `to`, and zeros; after a refusal zeros alone.
-fn lay(said: Outcome, from: &[usize], to: &mut [usize])
-    requires { length from.now ≤ length to.old }
-    ensures { to.new ≡ laid 0 said (length to.old) from.now }
+// All the steps: the tree refuses a variance, the sharing a side or a cut cluster. After a refusal the buffers hold what was worked out before it.
+fn work(
+    covariance: &[f64],
+    rows_in: usize,
+    columns: usize,
+    metric: Metric,
+    expected: &[f64],
+    expected_given: bool,
+    returns: &[f64],
+    return_rows: usize,
+    return_columns: usize,
+    confidence: f64,
+    clusters: usize,
+    distance: Distance,
+    linkage: Linkage,
+    rows: &mut [usize],
+    order: &mut [usize],
+    weights: &mut [f64],
+    scratch: &mut [f64],
+) -> Result<(), Refusal>
+    ensures { HierarchyWorked
+        (record {
+          rule = record {
+            metric = metric;
+            inputs = record { expected = expected.now; returns = returns.now; return_rows = return_rows; confidence = confidence };
+            clusters = clusters;
+          };
+          expected_given = expected_given;
+          return_columns = return_columns;
+        })
+        distance linkage covariance.now rows_in columns
+        (record {
+          rows = length rows.old;
+          order = length order.old;
+          weights = length weights.old;
+          scratch = length scratch.old;
+        })
+        result rows.new order.new weights.new scratch.new }
 {
-    lent::clear_numbers(to);
-    if let Outcome::Done = said {
-        copy_numbers(from, to);
-    }
+    admission::judge(
+        covariance.len(),
+        rows_in,
+        columns,
+        metric,
+        expected,
+        expected_given,
+        returns,
+        return_rows,
+        return_columns,
+        confidence,
+        clusters,
+        rows.len(),
+        order.len(),
+        weights.len(),
+        scratch.len(),
+    )?;
+    let mut tree = [0; 126];
+    let mut leaves = [0; 64];
+    plant(
+        covariance,
+        columns,
+        distance,
+        linkage,
+        &mut tree,
+        &mut leaves,
+        scratch,
+    )?;
+    let k = 2 * (columns - 1);
+    let made = &tree[..k];
+    // leaves the scratch zero
+    sharing::allocate_down_tree(
+        metric,
+        expected,
+        expected_given,
+        returns,
+        return_rows,
+        return_columns,
+        confidence,
+        covariance,
+        columns,
+        columns,
+        made,
+        columns,
+        clusters,
+        weights,
+        scratch,
+    )?;
+    lay(made, rows);
+    lay(&leaves[..columns], order);
+    Ok(())
 }
 
 // The weights of a covariance of as many assets as it has columns, with their tree and its leaf order.
@@ -120,7 +186,7 @@ pub fn allocate_covariance(
     order: &mut [usize],
     weights: &mut [f64],
     scratch: &mut [f64],
-) -> Outcome
+) -> Result<(), Refusal>
     ensures { HierarchyAnswered
         (record {
           rule = record {
@@ -140,8 +206,8 @@ pub fn allocate_covariance(
         })
         result rows.new order.new weights.new scratch.new }
 {
-    let said = admission::judge(
-        covariance.len(),
+    if let Err(refused) = work(
+        covariance,
         rows_in,
         columns,
         metric,
@@ -152,48 +218,15 @@ pub fn allocate_covariance(
         return_columns,
         confidence,
         clusters,
-        rows.len(),
-        order.len(),
-        weights.len(),
-        scratch.len(),
-    );
-    let mut tree = [0; 126];
-    let mut leaves = [0; 64];
-    let said = plant(
-        said,
-        covariance,
-        columns,
         distance,
         linkage,
-        &mut tree,
-        &mut leaves,
-        scratch,
-    );
-    let Outcome::Done = said else {
-        rooms::clear_all(rows, order, weights, scratch);
-        return said;
-    };
-    let k = 2 * (columns - 1);
-    let made = &tree[..k];
-    // refuses a side or a cut cluster, and leaves zeros then; scratch it leaves zero always
-    let said = lent::told(sharing::allocate_down_tree(
-        metric,
-        expected,
-        expected_given,
-        returns,
-        return_rows,
-        return_columns,
-        confidence,
-        covariance,
-        columns,
-        columns,
-        made,
-        columns,
-        clusters,
+        rows,
+        order,
         weights,
         scratch,
-    ));
-    lay(said, made, rows);
-    lay(said, &leaves[..columns], order);
-    said
+    ) {
+        rooms::clear_all(rows, order, weights, scratch);
+        return Err(refused);
+    }
+    Ok(())
 }

@@ -10,14 +10,10 @@ use Rattle.arithmetic.specs.Constants.{pz}
 use Rattle.arithmetic.specs.Arithmetic.{count_of, min_of, max_of, abs_of, clamp_of}
 use Rattle.arithmetic.specs.Root.{isqrt, root}
 use Rattle.refusal.specs.Refusal.{number_of}
-use Rattle.refusal.specs.Table.{first}
-use Rattle.refusal.specs.declared.Outcome.{Outcome}
-use Rattle.refusal.specs.declared.Outcome.TheVariants as outcome
+use Rattle.refusal.specs.Table.{first, Outcome}
 use Rattle.lent.specs.Grid.{tab, grid, sum_to, sum_on, sum_rows, any_to}
 use Rattle.lent.specs.Range.{span, range}
-use Rattle.lent.specs.Lent.{over_limit, other_length, too_big, misfits, sizes, laid}
-use Rattle.lent.specs.declared.Shape.{Shape}
-use Rattle.lent.specs.declared.Shape.TheVariants.{Absent, Of}
+use Rattle.lent.specs.Lent.{over_limit, other_length, too_big, misfits, sizes, laid, Shape, size as sized}
 use Rattle.text.specs.Bytes.{bytes, lower, same as same_bytes, is_word}
 use Rattle.resample.specs.Resample.{is_weekly, is_monthly, step_of, keeps_all, kept_rows, kept_row, sampled_cell, return_cell, zero_met}
 use Rattle.stats.specs.Covariance.{mean_of, spread, covariance_of as covariance_in, covariance_cell, shrunk_cell, correlation_cell, any_low}
@@ -33,6 +29,7 @@ use Rattle.arranging.specs.Arranging.{distances_in, tree_rows, tree_order}
 use Rattle.parity.specs.Parity.{ParityRoom, correlations_of, hrp_distances, tree_distances, hrp_rows, hrp_order, hrp_shares, seriated_in, parity_room_lines, hrp_risk_lines, room_lines}
 use Rattle.inputs.specs.Inputs.{absent, rows_of_shape, other_columns, other_size, matrix_lines, sampled, no_returns, made_returns}
 use Rattle.hrp.specs.Hrp.{HrpJob, prices_alone, hrp_return_rows, hrp_return_cells, estimated, shrunk_if, hrp_covariance_by, hrp_covariance, hrp_shape_lines, number_lines, hrp_table, hrp_outcome}
+use Rattle.std.specs.Prelude.{Some, Ok, None, Err}
 
 abbrev all : List Bool → Bool
 all [] = true
@@ -54,8 +51,8 @@ bits (x ∷ l) = to_bits binary64 x ∷ bits l
 
 -- 0, or the refusal's number
 abbrev number : Outcome → ℕ
-number outcome.Done = 0
-number (outcome.Refused r) = number_of r
+number (Ok _) = 0
+number (Err r) = number_of r
 
 -- buffers of just the sizes that n assets ask
 abbrev room : ℕ → ParityRoom
@@ -131,31 +128,31 @@ equal x = 0 ∷ half ∷ half ∷ one ∷ x ∷ x ∷ one ∷ []
 abbrev done : List Bool
 done =
     -- a given covariance is not shrunk, and prices are not looked at beside it, nor beside returns; the estimated one is shrunk where asked
-    same (allocated (given 2 (one ∷ []) (Of 1 1) alike (Of 3 2) (one ∷ half ∷ half ∷ one ∷ []) (Of 2 2) [] true)) (equal half)
-    ∷ same (allocated (given 2 (one ∷ []) (Of 1 1) alike (Of 3 2) [] Absent [] false)) (equal one)
-    ∷ same (allocated (given 2 (one ∷ []) (Of 1 1) alike (Of 3 2) [] Absent [] true)) (equal nine)
+    same (allocated (given 2 (one ∷ []) (Some (sized 1 1)) alike (Some (sized 3 2)) (one ∷ half ∷ half ∷ one ∷ []) (Some (sized 2 2)) [] true)) (equal half)
+    ∷ same (allocated (given 2 (one ∷ []) (Some (sized 1 1)) alike (Some (sized 3 2)) [] None [] false)) (equal one)
+    ∷ same (allocated (given 2 (one ∷ []) (Some (sized 1 1)) alike (Some (sized 3 2)) [] None [] true)) (equal nine)
     -- prices, and a sample of them
-    ∷ same (allocated (given 2 rising (Of 4 2) [] Absent [] Absent [] true)) (equal nine)
-    ∷ same (allocated (given 1 weekly (Of 20 1) [] Absent [] Absent (bytes "Weekly") false)) (0 ∷ one ∷ one ∷ [])
-    ∷ same (allocated (given 1 weekly (Of 20 1) [] Absent [] Absent (bytes "daily") false)) (1 ∷ p0 ∷ p0 ∷ [])
+    ∷ same (allocated (given 2 rising (Some (sized 4 2)) [] None [] None [] true)) (equal nine)
+    ∷ same (allocated (given 1 weekly (Some (sized 20 1)) [] None [] None (bytes "Weekly") false)) (0 ∷ one ∷ one ∷ [])
+    ∷ same (allocated (given 1 weekly (Some (sized 20 1)) [] None [] None (bytes "daily") false)) (1 ∷ p0 ∷ p0 ∷ [])
     ∷ []
 
 abbrev refusals : List Bool
 refusals =
     -- no matrix before no assets, both before the columns; given returns' columns, and prices' only where they are alone
-    eqb (refused (given 2 [] Absent [] Absent [] Absent [] false) (room 2)) 1
-    ∷ eqb (refused (given 0 [] Absent [] (Of 0 1) [] (Of 0 0) [] false) (room 0)) 1
-    ∷ eqb (refused (given 2 [] Absent (one ∷ []) (Of 1 1) (one ∷ p0 ∷ p0 ∷ one ∷ []) (Of 2 2) [] false) (room 2)) 3
-    ∷ eqb (refused (given 2 (one ∷ []) (Of 1 1) [] Absent [] Absent [] false) (room 2)) 3
+    eqb (refused (given 2 [] None [] None [] None [] false) (room 2)) 1
+    ∷ eqb (refused (given 0 [] None [] (Some (sized 0 1)) [] (Some (sized 0 0)) [] false) (room 0)) 1
+    ∷ eqb (refused (given 2 [] None (one ∷ []) (Some (sized 1 1)) (one ∷ p0 ∷ p0 ∷ one ∷ []) (Some (sized 2 2)) [] false) (room 2)) 3
+    ∷ eqb (refused (given 2 (one ∷ []) (Some (sized 1 1)) [] None [] None [] false) (room 2)) 3
     -- a zero price, under 2 sampled rows, under 2 rows of returns
-    ∷ eqb (refused (given 2 (one ∷ p0 ∷ one ∷ one ∷ one ∷ one ∷ []) (Of 3 2) [] Absent [] Absent [] false) (room 2)) 1
-    ∷ eqb (refused (given 1 weekly (Of 20 1) [] Absent [] Absent (bytes "m") false) (room 1)) 1
-    ∷ eqb (refused (given 2 [] Absent (one ∷ two ∷ []) (Of 1 2) [] Absent [] false) (room 2)) 1
+    ∷ eqb (refused (given 2 (one ∷ p0 ∷ one ∷ one ∷ one ∷ one ∷ []) (Some (sized 3 2)) [] None [] None [] false) (room 2)) 1
+    ∷ eqb (refused (given 1 weekly (Some (sized 20 1)) [] None [] None (bytes "m") false) (room 1)) 1
+    ∷ eqb (refused (given 2 [] None (one ∷ two ∷ []) (Some (sized 1 2)) [] None [] false) (room 2)) 1
     -- the covariance's size; 11 before every 1, 10 before 11, 9 before 10
-    ∷ eqb (refused (given 2 [] Absent [] Absent (one ∷ two ∷ []) (Of 1 2) [] false) (room 2)) 3
-    ∷ eqb (refused (given 2 [] Absent [] Absent [] Absent [] false) (record { rows = 2; order = 2; weights = 2; correlations = 4; distances = 4; scratch = 8191 })) 11
-    ∷ eqb (refused (given 2 [] (Of 1 2) [] Absent [] Absent [] false) (room 1)) 10
-    ∷ eqb (refused (given 65 [] (Of 1 2) [] Absent [] Absent [] false) (room 1)) 9
+    ∷ eqb (refused (given 2 [] None [] None (one ∷ two ∷ []) (Some (sized 1 2)) [] false) (room 2)) 3
+    ∷ eqb (refused (given 2 [] None [] None [] None [] false) (record { rows = 2; order = 2; weights = 2; correlations = 4; distances = 4; scratch = 8191 })) 11
+    ∷ eqb (refused (given 2 [] (Some (sized 1 2)) [] None [] None [] false) (room 1)) 10
+    ∷ eqb (refused (given 65 [] (Some (sized 1 2)) [] None [] None [] false) (room 1)) 9
     ∷ []
 
 pub figures : all done && all refusals ≡ true

@@ -8,15 +8,11 @@ use borrow.Author.Tests.{eqb-true, eq-eqb, not-false}
 use lib.Dec.{ltb, eqb}
 use lib.ListN.{length, take}
 use lib.Ieee.{Float}
-use Rattle.refusal.specs.Table.{Line, first, or_else, and_then}
+use Rattle.refusal.specs.Table.{Line, first, or_else, and_then, Outcome}
 use Rattle.refusal.specs.declared.Refusal.{Refusal}
 use Rattle.refusal.specs.declared.Refusal.TheVariants.{NoData, DimensionMismatch}
-use Rattle.refusal.specs.declared.Outcome.{Outcome}
-use Rattle.refusal.specs.declared.Outcome.TheVariants.{Done, Refused}
 use Rattle.refusal.proofs.Tables.{none, table, table_pass, table_end, first_append, first_done, then_done, both_done, parts_done}
-use Rattle.lent.specs.Lent.{sizes}
-use Rattle.lent.specs.declared.Shape.{Shape}
-use Rattle.lent.specs.declared.Shape.TheVariants.{Absent, Of}
+use Rattle.lent.specs.Lent.{sizes, Shape, size}
 use Rattle.lent.proofs.Laws.{square_in, length_grid}
 use Rattle.lent.proofs.Sizes.{Sized}
 use Rattle.resample.specs.Resample.{step_of}
@@ -29,15 +25,16 @@ use Rattle.parity.proofs.Answers.{parity_said, laid_cleared}
 use Rattle.hrp.specs.Hrp.{HrpJob, prices_alone, hrp_return_rows, hrp_return_cells, estimated, shrunk_if, hrp_covariance_by, hrp_covariance, hrp_shape_lines, number_lines, hrp_table, hrp_outcome, HrpAllocated}
 use Rattle.hrp.specs.Inner.{HrpSource, gathered_rows, gathered_cells, gather_sizes, gathered_covariance, gather_outcome, HrpFitting, HrpGathered, HrpGiven}
 use Rattle.hrp.proofs.Estimates.{and_no, gathered_given}
+use Rattle.std.specs.Prelude.{Some, Ok, None, Err}
 
 -- ---- the given matrices
 
 -- the columns, and the size, of a given matrix
-columns_are : (rows w n : ℕ) → other_columns (Of rows w) n ≡ false → w ≡ n
+columns_are : (rows w n : ℕ) → other_columns (Some (size rows w)) n ≡ false → w ≡ n
 unfolding other_columns
 columns_are rows w n e = eqb-true w n (not-false _ e)
 
-size_is : (rows w n : ℕ) → other_size (Of rows w) n ≡ false → (rows ≡ n) × (w ≡ n)
+size_is : (rows w n : ℕ) → other_size (Some (size rows w)) n ≡ false → (rows ≡ n) × (w ≡ n)
 unfolding other_size
 size_is rows w n e = go (eqb rows n) (eqb w n) (eqb-true rows n) (eqb-true w n) e
   where
@@ -48,54 +45,54 @@ size_is rows w n e = go (eqb rows n) (eqb w n) (eqb-true rows n) (eqb-true w n) 
 
 -- what a covariance is made from has its sizes
 source_sized : (q : HrpSource) (ps rs cs : Shape) → ps ≡ q.prices_shape → Fits ps (length q.prices) → Fits rs (length q.returns) → absent cs ≡ true → (absent ps && (absent rs && absent cs)) ≡ false
-    → other_columns rs q.assets ≡ false → ((absent rs && absent cs) && other_columns ps q.assets) ≡ false → first (gather_sizes q rs) ≡ Done
+    → other_columns rs q.assets ≡ false → ((absent rs && absent cs) && other_columns ps q.assets) ≡ false → first (gather_sizes q rs) ≡ Ok tt
 unfolding gather_sizes absent rows_of_shape
-source_sized q ps (Of k w) cs e fp fr t g o u = sizes_pass (length q.returns) k q.assets (rw (columns_are k w q.assets o) at fr)
-source_sized q Absent Absent cs e fp fr t g o u = absurd (let y : absent cs ≡ false = g in let z : ◌≡◌ {A = ℕ} 0 1 = cc in omega arith)
-source_sized q (Of k w) Absent cs e fp fr t g o u =
-    let v : other_columns (Of k w) q.assets ≡ false = rw t at u in
-    rw (← e) (sizes_pass (length q.prices) k q.assets (rw (columns_are k w q.assets v) at fp))
+source_sized q ps (Some s) cs e fp fr t g o u = sizes_pass (length q.returns) s.rows q.assets (rw (columns_are s.rows s.columns q.assets o) at fr)
+source_sized q None None cs e fp fr t g o u = absurd (let y : absent cs ≡ false = g in let z : ◌≡◌ {A = ℕ} 0 1 = cc in omega arith)
+source_sized q (Some s) None cs e fp fr t g o u =
+    let v : other_columns (Some (size s.rows s.columns)) q.assets ≡ false = rw t at u in
+    rw (← e) (sizes_pass (length q.prices) s.rows q.assets (rw (columns_are s.rows s.columns q.assets v) at fp))
 
 given_cells : (n : ℕ) (cs : Shape) (len : ℕ) → Fits cs len → absent cs ≡ false → other_size cs n ≡ false → len ≡ n * n
 unfolding absent
-given_cells n Absent len f s o = absurd (let z : ◌≡◌ {A = ℕ} 0 1 = cc in omega arith)
-given_cells n (Of k w) len f s o = let q = size_is k w n o in rw (q.0, q.1) at f.cells
+given_cells n None len f s o = absurd (let z : ◌≡◌ {A = ℕ} 0 1 = cc in omega arith)
+given_cells n (Some z) len f s o = let q = size_is z.rows z.columns n o in rw (q.0, q.1) at f.cells
 
 -- ---- outcomes one after the other
 
 in_stages : (a b c d e : Outcome) → and_then a (and_then b (and_then c (and_then d e))) ≡ and_then (and_then a (and_then b (and_then c d))) e
 unfolding and_then
-in_stages (Refused r) b c d e = refl
-in_stages Done (Refused r) c d e = refl
-in_stages Done Done (Refused r) d e = refl
-in_stages Done Done Done (Refused r) e = refl
-in_stages Done Done Done Done e = refl
+in_stages (Err r) b c d e = refl
+in_stages (Ok _) (Err r) c d e = refl
+in_stages (Ok _) (Ok _) (Err r) d e = refl
+in_stages (Ok _) (Ok _) (Ok _) (Err r) e = refl
+in_stages (Ok _) (Ok _) (Ok _) (Ok _) e = refl
 
-stops : (a b c : Outcome) (k : Refusal) → and_then a b ≡ Refused k → and_then a (and_then b c) ≡ Refused k
+stops : (a b c : Outcome) (k : Refusal) → and_then a b ≡ Err k → and_then a (and_then b c) ≡ Err k
 unfolding and_then
-stops (Refused r) b c k e = e
-stops Done (Refused r) c k e = e
-stops Done Done c k e = absurd (let z : ◌≡◌ {A = ℕ} 0 1 = cc in omega arith)
+stops (Err r) b c k e = e
+stops (Ok _) (Err r) c k e = e
+stops (Ok _) (Ok _) c k e = absurd (let z : ◌≡◌ {A = ℕ} 0 1 = cc in omega arith)
 
-goes_on : (a b c : Outcome) → and_then a b ≡ Done → and_then a (and_then b c) ≡ c
+goes_on : (a b c : Outcome) → and_then a b ≡ Ok tt → and_then a (and_then b c) ≡ c
 unfolding and_then
-goes_on (Refused r) b c e = absurd (let z : ◌≡◌ {A = ℕ} 0 1 = cc in omega arith)
-goes_on Done (Refused r) c e = absurd (let z : ◌≡◌ {A = ℕ} 0 1 = cc in omega arith)
-goes_on Done Done c e = refl
+goes_on (Err r) b c e = absurd (let z : ◌≡◌ {A = ℕ} 0 1 = cc in omega arith)
+goes_on (Ok _) (Err r) c e = absurd (let z : ◌≡◌ {A = ℕ} 0 1 = cc in omega arith)
+goes_on (Ok _) (Ok _) c e = refl
 
 -- ---- buffers that are cleared are what a refusal leaves
 
 pub cleared : (o : Outcome) (k : Refusal) (d : Distance) (cov : List Float) (n : ℕ) (room : ParityRoom) (rows order : List ℕ) (weights correlations distances scratch : List Float)
-    → o ≡ Refused k → ParityCleared room rows order weights correlations distances scratch → ParityLaid o d cov n room rows order weights correlations distances scratch
+    → o ≡ Err k → ParityCleared room rows order weights correlations distances scratch → ParityLaid o d cov n room rows order weights correlations distances scratch
 cleared o k d cov n room rows order weights correlations distances scratch e z = laid_cleared d cov n o room rows order weights correlations distances scratch k e z
 
 -- ---- on a covariance that is held: what `parity` says is what its risk says
 
-held : (d : Distance) (cov : List Float) (n : ℕ) (room : ParityRoom) → n ≤ 64 → eqb n 0 ≡ false → first (parity_room_lines n room) ≡ Done → length cov ≡ n * n → parity_outcome d cov n n room ≡ first (hrp_risk_lines d cov n)
+held : (d : Distance) (cov : List Float) (n : ℕ) (room : ParityRoom) → n ≤ 64 → eqb n 0 ≡ false → first (parity_room_lines n room) ≡ Ok tt → length cov ≡ n * n → parity_outcome d cov n n room ≡ first (hrp_risk_lines d cov n)
 unfolding parity_judge_table square_lines
 held d cov n room few some roomy cells =
     let z : Sized (length cov) n n = record { tall = omega (arith, few); wide = few; small = square_in n few; cells = cells } in
-    let p : first (parity_judge_table (length cov) n n room) ≡ Done =
+    let p : first (parity_judge_table (length cov) n n room) ≡ (Ok tt) =
     first_done (sizes (length cov) n n) _ (sizes_pass (length cov) n n z) ∙ first_done (parity_room_lines n room) _ roomy ∙ table_pass _ NoData _ some ∙ table_pass _ DimensionMismatch _ (rw (eq-eqb n n refl)) ∙ table_end in
     parity_said d cov n n room ∙ then_done _ _ p
 
@@ -108,8 +105,8 @@ length_used j f = go j.covariance_shape f
     by false xs h n = length_grid n n _
 
     go : (t : Shape) → (absent t ≡ false → length j.covariance ≡ j.assets * j.assets) → length (hrp_covariance_by j t) ≡ j.assets * j.assets
-    go (Of k w) f = f refl
-    go Absent f = by j.use_shrinkage _ _ j.assets
+    go (Some s) f = f refl
+    go None f = by j.use_shrinkage _ _ j.assets
 
 -- ---- the table of a call
 
@@ -131,7 +128,7 @@ three_lines : (a b c : Bool) (l : List Line) → first ((a, NoData) ∷ (b, NoDa
 three_lines a b c l = simp (table)
 
 -- the last is first to tell where the others cannot
-turned : (a b c : Bool) (o : Outcome) → (c ≡ true → (a ≡ false) × (b ≡ false)) → or_else a NoData (or_else b NoData (or_else c DimensionMismatch o)) ≡ and_then (or_else c DimensionMismatch Done) (and_then (or_else a NoData (or_else b NoData Done)) o)
+turned : (a b c : Bool) (o : Outcome) → (c ≡ true → (a ≡ false) × (b ≡ false)) → or_else a NoData (or_else b NoData (or_else c DimensionMismatch o)) ≡ and_then (or_else c DimensionMismatch (Ok tt)) (and_then (or_else a NoData (or_else b NoData (Ok tt))) o)
 unfolding or_else and_then
 turned a b true o f = let p = f refl in rw (p.0, p.1)
 turned true b false o f = refl
@@ -140,8 +137,8 @@ turned false false false o f = refl
 
 given_only : (j : HrpJob) (s : Shape) (n : ℕ) → other_size s n ≡ true → absent s ≡ false
 unfolding other_size absent
-given_only j Absent n e = absurd (let z : ◌≡◌ {A = ℕ} 0 1 = cc in omega arith)
-given_only j (Of k w) n e = refl
+given_only j None n e = absurd (let z : ◌≡◌ {A = ℕ} 0 1 = cc in omega arith)
+given_only j (Some s) n e = refl
 
 module _ (j : HrpJob) (s : ℕ) (e : s ≡ step_of j.resample_by) where
   abbrev q : HrpSource
@@ -149,34 +146,34 @@ module _ (j : HrpJob) (s : ℕ) (e : s ≡ step_of j.resample_by) where
 
   rows_same : (t : Shape) → gathered_rows q t ≡ hrp_return_rows j t
   unfolding gathered_rows hrp_return_rows
-  rows_same Absent = rw e
-  rows_same (Of k w) = refl
+  rows_same None = rw e
+  rows_same (Some s) = refl
 
   cells_same : (t : Shape) → gathered_cells q t ≡ hrp_return_cells j t
   unfolding gathered_cells hrp_return_cells
-  cells_same Absent = rw e
-  cells_same (Of k w) = refl
+  cells_same None = rw e
+  cells_same (Some s) = refl
 
   given_same : absent j.covariance_shape ≡ false → j.covariance ≡ hrp_covariance j
   unfolding hrp_covariance hrp_covariance_by absent
   given_same f = go j.covariance_shape f
     where
       go : (t : Shape) → absent t ≡ false → j.covariance ≡ hrp_covariance_by j t
-      go (Of k w) f = refl
-      go Absent f = absurd (true≢false f)
+      go (Some s) f = refl
+      go None f = absurd (true≢false f)
 
   made_same : absent j.covariance_shape ≡ true → gathered_covariance q ≡ hrp_covariance j
   unfolding hrp_covariance hrp_covariance_by gathered_covariance absent
   made_same f = go j.covariance_shape f
     where
       go : (t : Shape) → absent t ≡ true → gathered_covariance q ≡ hrp_covariance_by j t
-      go (Of k w) f = absurd (false≢true f)
-      go Absent f = rw (cells_same j.returns_shape, rows_same j.returns_shape)
+      go (Some s) f = absurd (false≢true f)
+      go None f = rw (cells_same j.returns_shape, rows_same j.returns_shape)
 
   last : List Line
   last = (other_size j.covariance_shape j.assets, DimensionMismatch) ∷ []
 
-  last_is : first last ≡ or_else (other_size j.covariance_shape j.assets) DimensionMismatch Done
+  last_is : first last ≡ or_else (other_size j.covariance_shape j.assets) DimensionMismatch (Ok tt)
   unfolding last
   last_is = simp (table, table_end)
 
@@ -211,14 +208,14 @@ module _ (j : HrpJob) (s : ℕ) (e : s ≡ step_of j.resample_by) where
 
     record Accepted : Type 0 where
       pub matrices : Matrices j.assets j.prices_shape (length j.prices) j.returns_shape (length j.returns) j.covariance_shape (length j.covariance)
-      pub roomy : first (parity_room_lines j.assets room) ≡ Done
+      pub roomy : first (parity_room_lines j.assets room) ≡ Ok tt
       pub given : (absent j.prices_shape && (absent j.returns_shape && absent j.covariance_shape)) ≡ false
       pub some : eqb j.assets 0 ≡ false
       pub returns_wide : other_columns j.returns_shape j.assets ≡ false
       pub prices_wide : ((absent j.returns_shape && absent j.covariance_shape) && other_columns j.prices_shape j.assets) ≡ false
       pub square : other_size j.covariance_shape j.assets ≡ false
 
-    accepted : said ≡ Done → Accepted
+    accepted : said ≡ Ok tt → Accepted
     unfolding hrp_judge_table shapes_judged
     accepted d =
         let a = parts_done (matrix_lines j.assets j.prices_shape (length j.prices) j.returns_shape (length j.returns) j.covariance_shape (length j.covariance)) _ (sym h ∙ d) in
@@ -244,16 +241,16 @@ module _ (j : HrpJob) (s : ℕ) (e : s ≡ step_of j.resample_by) where
     -- ---- and whose covariance was made
 
     module _ (r : Outcome) (made : List Float) (g : HrpGathered said q r made) where
-      pub few_assets : r ≡ Done → j.assets ≤ 64
+      pub few_assets : r ≡ Ok tt → j.assets ≤ 64
       few_assets d = (accepted (both_done said (gather_outcome q) (sym g.answer ∙ d)).0).matrices.few
 
       module _ (rows order : List ℕ) (weights correlations distances scratch : List Float) where
-        pub ends_refused : (k : Refusal) → r ≡ Refused k → ParityCleared room rows order weights correlations distances scratch → HrpAllocated j room r rows order weights correlations distances scratch
+        pub ends_refused : (k : Refusal) → r ≡ Err k → ParityCleared room rows order weights correlations distances scratch → HrpAllocated j room r rows order weights correlations distances scratch
         ends_refused k d z =
-            let o : hrp_outcome j room ≡ Refused k = outcome_is ∙ stops said (gather_outcome q) _ k (sym g.answer ∙ d) in
+            let o : hrp_outcome j room ≡ Err k = outcome_is ∙ stops said (gather_outcome q) _ k (sym g.answer ∙ d) in
             record { answer = d ∙ sym o; buffers = cleared _ k j.distance (hrp_covariance j) j.assets room rows order weights correlations distances scratch o z }
 
-        ends : (r₁ : Outcome) (used : List Float) → r ≡ Done → used ≡ hrp_covariance j
+        ends : (r₁ : Outcome) (used : List Float) → r ≡ Ok tt → used ≡ hrp_covariance j
             → ParityAnswered j.distance used j.assets j.assets room r₁ rows order weights correlations distances scratch → HrpAllocated j room r₁ rows order weights correlations distances scratch
         ends r₁ used d v z =
             let a = accepted (both_done said (gather_outcome q) (sym g.answer ∙ d)).0 in
@@ -263,7 +260,7 @@ module _ (j : HrpJob) (s : ℕ) (e : s ≡ step_of j.resample_by) where
             outcome_is ∙ goes_on said (gather_outcome q) _ (sym g.answer ∙ d) ∙ sym (held j.distance (hrp_covariance j) j.assets room a.matrices.few a.some a.roomy l) in
             record { answer = w.answer ∙ sym o; buffers = rw o w.buffers }
 
-        pub ends_made : (b : Bool) → HrpGiven said j.covariance_shape b → b ≡ false → (r₁ : Outcome) → r ≡ Done
+        pub ends_made : (b : Bool) → HrpGiven said j.covariance_shape b → b ≡ false → (r₁ : Outcome) → r ≡ Ok tt
             → ParityAnswered j.distance (take (j.assets * j.assets) made) j.assets j.assets room r₁ rows order weights correlations distances scratch → HrpAllocated j room r₁ rows order weights correlations distances scratch
         ends_made b u f r₁ d z =
             let t = u.none f (both_done said (gather_outcome q) (sym g.answer ∙ d)).0 in
@@ -274,4 +271,4 @@ module _ (j : HrpJob) (s : ℕ) (e : s ≡ step_of j.resample_by) where
     ends_given b u f r₁ rows order weights correlations distances scratch z =
         let d = u.done f in
         let t = u.given f in
-        ends said [] (gathered_given said q d [] t) rows order weights correlations distances scratch r₁ j.covariance d (given_same t) z
+        ends said [] (gathered_given said q d said d [] t) rows order weights correlations distances scratch r₁ j.covariance d (given_same t) z

@@ -1,17 +1,15 @@
 -- HRP: what `allocate` answers, and what it leaves in each lent buffer, for every input. Document 01, "Order", HRP. Definitions only.
-use Rattle.std.specs.Prelude.{ℕ, ◌-◌, ◌≡◌, Bool, true, false, ◌&&◌, List, ◌∷◌, ◌++◌, ltb, length, Float}
-use Rattle.refusal.specs.Table.{Line, first}
+use Rattle.std.specs.Prelude.{ℕ, ◌-◌, ◌≡◌, Bool, true, false, ◌&&◌, List, ◌∷◌, ◌++◌, ltb, length, Float, Some, None}
+use Rattle.refusal.specs.Table.{Line, first, Outcome}
 use Rattle.refusal.specs.declared.Refusal.TheVariants.{NoData, DimensionMismatch}
-use Rattle.refusal.specs.declared.Outcome.{Outcome}
 use Rattle.lent.specs.Grid.{grid}
-use Rattle.lent.specs.declared.Shape.{Shape}
-use Rattle.lent.specs.declared.Shape.TheVariants.{Absent, Of}
 use Rattle.resample.specs.Resample.{step_of, kept_rows}
 use Rattle.inputs.specs.Inputs.{absent, rows_of_shape, other_size, matrix_lines, no_returns, made_returns}
 use Rattle.stats.specs.Covariance.{covariance_cell, shrunk_cell}
 use Rattle.linkage.specs.declared.Distance.{Distance}
 use Rattle.rooms.specs.Rooms.{ParityRoom, parity_room_lines, shape_lines}
 use Rattle.parity.specs.Parity.{hrp_risk_lines, ParityLaid}
+use Rattle.lent.specs.Lent.{Shape}
 
 -- ---- the call
 
@@ -35,12 +33,12 @@ prices_alone j = absent j.returns_shape && absent j.covariance_shape
 
 -- the returns: the given ones, else those made from prices; by the shape of the given ones
 unfoldable pub hrp_return_rows : HrpJob → Shape → ℕ
-hrp_return_rows j (Of rows w) = rows
-hrp_return_rows j Absent = kept_rows (rows_of_shape j.prices_shape) (step_of j.resample_by) - 1
+hrp_return_rows j (Some s) = s.rows
+hrp_return_rows j None = kept_rows (rows_of_shape j.prices_shape) (step_of j.resample_by) - 1
 
 unfoldable pub hrp_return_cells : HrpJob → Shape → List Float
-hrp_return_cells j (Of rows w) = j.returns
-hrp_return_cells j Absent = made_returns j.prices (rows_of_shape j.prices_shape) j.assets (step_of j.resample_by)
+hrp_return_cells j (Some s) = j.returns
+hrp_return_cells j None = made_returns j.prices (rows_of_shape j.prices_shape) j.assets (step_of j.resample_by)
 
 unfoldable pub estimated : List Float → ℕ → ℕ → List Float
 estimated xs rows n = grid n n (covariance_cell xs rows n)
@@ -53,8 +51,8 @@ shrunk_if false cov n = cov
 -- the given covariance, else that of the returns; by the shape of the given one
 unfoldable pub hrp_covariance_by : HrpJob → Shape → List Float
 unfolding hrp_return_rows hrp_return_cells estimated shrunk_if
-hrp_covariance_by j (Of rows w) = j.covariance
-hrp_covariance_by j Absent =
+hrp_covariance_by j (Some s) = j.covariance
+hrp_covariance_by j None =
     shrunk_if j.use_shrinkage (estimated (hrp_return_cells j j.returns_shape) (hrp_return_rows j j.returns_shape) j.assets) j.assets
 
 unfoldable pub hrp_covariance : HrpJob → List Float

@@ -1,31 +1,37 @@
 // Hierarchical risk parity: what is given, the covariance made from it where none is, and the allocation on that.
 #![tactic(auto)]
 
-ghost use Rattle.std.specs.Prelude.{◌≡◌, length};
+ghost use Rattle.std.specs.Prelude.{◌≡◌, length, Ok};
 ghost use Rattle.refusal.specs.Table.{first};
-ghost use Rattle.refusal.specs.declared.Outcome.TheVariants.{Done};
 ghost use Rattle.lent.specs.Lent.{sizes};
 ghost use Rattle.hrp.specs.Hrp.{HrpAllocated};
 ghost use Rattle.hrp.specs.Inner.{HrpEstimated, HrpSampled, HrpFitting, HrpGathered, HrpGiven};
 
-use lent::{Answer, Shape};
+use lent::Size;
 use linkage::Distance;
-use refusal::Outcome;
+use refusal::Refusal;
 
 // The covariance of returns, shrunk where that is asked, at the front of out.
-fn estimate(returns: &[f64], rows: usize, n: usize, use_shrinkage: bool, out: &mut [f64]) -> Outcome
-    requires n_value { first (sizes (length returns.now) rows n) ≡ Done }
+fn estimate(
+    returns: &[f64],
+    rows: usize,
+    n: usize,
+    use_shrinkage: bool,
+    out: &mut [f64],
+) -> Result<(), Refusal>
+    requires n_value { first (sizes (length returns.now) rows n) ≡ Ok tt }
     requires out_len { length out.old ≡ 4096 }
     ensures { HrpEstimated returns.now rows n use_shrinkage result out.new }
 {
     if use_shrinkage {
         let mut plain = [0.0; 4096];
-        let said = lent::told(stats::covariance(returns, rows, n, &mut plain));
+        stats::covariance(returns, rows, n, &mut plain)?;
         let m = n * n;
-        stats::shrink_covariance(&plain[..m], n, n, out);
-        return said;
+        stats::shrink_covariance(&plain[..m], n, n, out)?;
+        return Ok(());
     }
-    lent::told(stats::covariance(returns, rows, n, out))
+    stats::covariance(returns, rows, n, out)?;
+    Ok(())
 }
 
 // The same from prices, by way of the returns made from them.
@@ -36,37 +42,30 @@ fn estimate_from_prices(
     step: usize,
     use_shrinkage: bool,
     out: &mut [f64],
-) -> Outcome
-    requires n_value { first (sizes (length prices.now) rows n) ≡ Done }
+) -> Result<(), Refusal>
+    requires n_value { first (sizes (length prices.now) rows n) ≡ Ok tt }
     requires out_len { length out.old ≡ 4096 }
     ensures { HrpSampled prices.now rows n step use_shrinkage result out.new }
 {
     let mut made = [0.0; 4096];
-    match inputs::sampled_returns(prices, rows, n, step, &mut made) {
-        Answer::Matrix {
-            rows: kept,
-            columns: _,
-        } => {
-            let cells = kept * n;
-            estimate(&made[..cells], kept, n, use_shrinkage, out)
-        }
-        Answer::Refused(refusal) => Outcome::Refused(refusal),
-    }
+    let Size { rows: kept, .. } = inputs::sampled_returns(prices, rows, n, step, &mut made)?;
+    let cells = kept * n;
+    estimate(&made[..cells], kept, n, use_shrinkage, out)
 }
 
 // The covariance of a call that gives none, unless something is refused before, at the front of out: of its returns, else of its prices.
 fn gather(
-    said: Outcome,
+    said: Result<(), Refusal>,
     n: usize,
     prices: &[f64],
-    prices_shape: Shape,
+    prices_shape: Option<Size>,
     returns: &[f64],
-    returns_shape: Shape,
-    covariance_shape: Shape,
+    returns_shape: Option<Size>,
+    covariance_shape: Option<Size>,
     step: usize,
     use_shrinkage: bool,
     out: &mut [f64],
-) -> Outcome
+) -> Result<(), Refusal>
     requires out_len { length out.old ≡ 4096 }
     requires hrp_fitting { HrpFitting said
         (record {
@@ -92,15 +91,13 @@ fn gather(
         })
         result out.new }
 {
-    let Outcome::Done = said else {
-        return said;
-    };
+    said?;
     if !inputs::is_absent(covariance_shape) {
-        return said;
+        return Ok(());
     }
     match returns_shape {
-        Shape::Of { rows, columns: _ } => estimate(returns, rows, n, use_shrinkage, out),
-        Shape::Absent => {
+        Some(Size { rows, .. }) => estimate(returns, rows, n, use_shrinkage, out),
+        None => {
             let rows = inputs::rows_in(prices_shape);
             estimate_from_prices(prices, rows, n, step, use_shrinkage, out)
         }
@@ -108,12 +105,12 @@ fn gather(
 }
 
 // A covariance is given, and nothing was refused.
-fn is_given(said: Outcome, covariance: Shape) -> bool
+fn is_given(said: Result<(), Refusal>, covariance: Option<Size>) -> bool
     ensures { HrpGiven said covariance result }
 {
-    let Outcome::Done = said else {
+    if said.is_err() {
         return false;
-    };
+    }
     !inputs::is_absent(covariance)
 }
 
@@ -121,11 +118,11 @@ fn is_given(said: Outcome, covariance: Shape) -> bool
 pub fn allocate(
     assets: usize,
     prices: &[f64],
-    prices_shape: Shape,
+    prices_shape: Option<Size>,
     returns: &[f64],
-    returns_shape: Shape,
+    returns_shape: Option<Size>,
     covariance: &[f64],
-    covariance_shape: Shape,
+    covariance_shape: Option<Size>,
     resample_by: &[u8],
     use_shrinkage: bool,
     distance: Distance,
@@ -135,7 +132,7 @@ pub fn allocate(
     seriated_correlations: &mut [f64],
     seriated_distances: &mut [f64],
     scratch: &mut [f64],
-) -> Outcome
+) -> Result<(), Refusal>
     ensures { HrpAllocated
         (record {
           assets = assets;
@@ -191,7 +188,7 @@ pub fn allocate(
         );
     }
     let mut made = [0.0; 4096];
-    let said = gather(
+    if let Err(refused) = gather(
         said,
         assets,
         prices,
@@ -202,8 +199,7 @@ pub fn allocate(
         step,
         use_shrinkage,
         &mut made,
-    );
-    let Outcome::Done = said else {
+    ) {
         rooms::clear_with_matrices(
             rows,
             order,
@@ -212,8 +208,8 @@ pub fn allocate(
             seriated_distances,
             scratch,
         );
-        return said;
-    };
+        return Err(refused);
+    }
     let m = assets * assets;
     parity::allocate_covariance(
         &made[..m],

@@ -1,6 +1,6 @@
 -- What a call whose matrices are not refused knows of them, and what sampling and differencing say of each other. Assumes nothing.
 use Prim.Native.Nat.{ℕ, ◌*◌, ◌-◌, ◌≤◌}
-use mathlib.Core.Path.{◌≡◌, refl, sym, ◌∙◌}
+use mathlib.Core.Path.{◌≡◌, refl, sym, ◌∙◌, ap}
 use mathlib.Core.Bool.{Bool, true, false, ◌||◌}
 use mathlib.Core.List.{List, [], ◌∷◌}
 use native.Mathlib.Nat.{mul-le-mul_right}
@@ -11,37 +11,33 @@ use lib.ListN.{length, take}
 use lib.Seq.{take_at}
 use lib.Ieee.{Float}
 use Rattle.arithmetic.specs.Constants.{pz}
-use Rattle.refusal.specs.Table.{Line, first, or_else, and_then}
+use Rattle.refusal.specs.Table.{Line, first, or_else, and_then, Outcome}
 use Rattle.refusal.specs.declared.Refusal.{Refusal}
 use Rattle.refusal.specs.declared.Refusal.TheVariants.{NoData, ShortBuffer}
-use Rattle.refusal.specs.declared.Outcome.{Outcome}
-use Rattle.refusal.specs.declared.Outcome.TheVariants.{Done, Refused}
 use Rattle.refusal.proofs.Tables.{none, table, table_pass, table_end, first_append, first_done, first_refused, both_done}
 use Rattle.lent.specs.Grid.{zeros}
-use Rattle.lent.specs.Lent.{over_limit, other_length, too_big, misfits, sizes, laid, answer_of}
-use Rattle.lent.specs.declared.Shape.{Shape}
-use Rattle.lent.specs.declared.Shape.TheVariants.{Absent, Of}
-use Rattle.lent.specs.declared.Answer.{Answer}
-use Rattle.lent.specs.declared.Answer.TheVariants as answer
+use Rattle.lent.specs.Lent.{over_limit, other_length, too_big, misfits, sizes, laid, answer_of, Answer, Shape, size}
 use Rattle.lent.proofs.Laws.{length_grid}
 use Rattle.lent.proofs.Sizes.{Sized, over_cells, within_limit, same_length, sized_done, laid_refused}
 use Rattle.resample.specs.Resample.{kept_rows, sampled_cell, return_cell, breaks_price_rules, sampling_table, sampling_outcome, sampled_answer, sampled_prices, returns_table, returns_outcome, returns_answer, returns_of}
 use Rattle.resample.proofs.Laws.{kept_le}
 use Rattle.inputs.specs.Inputs.{matrix_lines, sampled, no_returns, made_returns, made_outcome, made_answer, made_laid}
+use Rattle.lent.specs.declared.Size.{Size}
+use Rattle.std.specs.Prelude.{Some, Ok, None, Err}
 
 -- ---- the matrices of a call that is not refused for them
 
 -- a given matrix has its sizes; of an absent one nothing is known
 abbrev pub Fits : Shape → ℕ → Type 0
-Fits Absent len = Unit
-Fits (Of rows w) len = Sized len rows w
+Fits None len = Unit
+Fits (Some s) len = Sized len s.rows s.columns
 
 pub fits : (s : Shape) (len : ℕ) → too_big s ≡ false → misfits s len ≡ false → Fits s len
 unfolding too_big misfits
-fits Absent len b m = tt
-fits (Of rows w) len b m =
-    let l = within_limit rows w b in
-    record { tall = l.0; wide = l.1; small = l.2; cells = same_length len rows w m }
+fits None len b m = tt
+fits (Some s) len b m =
+    let l = within_limit s.rows s.columns b in
+    record { tall = l.0; wide = l.1; small = l.2; cells = same_length len s.rows s.columns m }
 
 pub record Matrices (n : ℕ) (p : Shape) (pl : ℕ) (r : Shape) (rl : ℕ) (c : Shape) (cl : ℕ) : Type 0 where
   pub few : n ≤ 64
@@ -49,7 +45,7 @@ pub record Matrices (n : ℕ) (p : Shape) (pl : ℕ) (r : Shape) (rl : ℕ) (c :
   pub returns : Fits r rl
   pub covariance : Fits c cl
 
-pub matrices_done : (n : ℕ) (p : Shape) (pl : ℕ) (r : Shape) (rl : ℕ) (c : Shape) (cl : ℕ) → first (matrix_lines n p pl r rl c cl) ≡ Done → Matrices n p pl r rl c cl
+pub matrices_done : (n : ℕ) (p : Shape) (pl : ℕ) (r : Shape) (rl : ℕ) (c : Shape) (cl : ℕ) → first (matrix_lines n p pl r rl c cl) ≡ Ok tt → Matrices n p pl r rl c cl
 unfolding matrix_lines
 matrices_done n p pl r rl c cl e =
     let a = none (matrix_lines n p pl r rl c cl) e in
@@ -63,7 +59,7 @@ matrices_done n p pl r rl c cl e =
 -- ---- tables
 
 -- a matrix of these sizes is not refused for them
-pub sizes_pass : (len rows w : ℕ) → Sized len rows w → first (sizes len rows w) ≡ Done
+pub sizes_pass : (len rows w : ℕ) → Sized len rows w → first (sizes len rows w) ≡ Ok tt
 unfolding sizes other_length
 sizes_pass len rows w z =
     let a : over_limit rows w ≡ false = over_cells rows w z.tall z.wide ∙ le-ltb 4096 (rows * w) z.small in
@@ -75,18 +71,20 @@ no_or false b e = (refl, e)
 
 -- ---- a matrix's answer tells its outcome
 
-pub answer_made : (o : Outcome) (rows w k v : ℕ) → answer_of o rows w ≡ answer.Matrix k v → (o ≡ Done) × (k ≡ rows)
+pub answer_made : (o : Outcome) (rows w k v : ℕ) → answer_of o rows w ≡ Ok (size k v) → (o ≡ Ok tt) × (k ≡ rows)
 unfolding answer_of
-answer_made Done rows w k v e = (refl, cc)
-answer_made (Refused r) rows w k v e = absurd (let z : ◌≡◌ {A = ℕ} 0 1 = cc in omega arith)
+answer_made (Ok _) rows w k v e =
+    let z : ◌≡◌ {A = Size} (size k v) (size rows w) = cc in
+    (refl, ap (λ (x : Size). x.rows) z)
+answer_made (Err r) rows w k v e = absurd (let z : ◌≡◌ {A = ℕ} 0 1 = cc in omega arith)
 
-pub answer_refused : (o : Outcome) (rows w : ℕ) (r : Refusal) → answer_of o rows w ≡ answer.Refused r → o ≡ Refused r
+pub answer_refused : (o : Outcome) (rows w : ℕ) (r : Refusal) → answer_of o rows w ≡ Err r → o ≡ Err r
 unfolding answer_of
-answer_refused Done rows w r e = absurd (let z : ◌≡◌ {A = ℕ} 0 1 = cc in omega arith)
-answer_refused (Refused k) rows w r e = cc
+answer_refused (Ok _) rows w r e = absurd (let z : ◌≡◌ {A = ℕ} 0 1 = cc in omega arith)
+answer_refused (Err k) rows w r e = cc
 
 -- what stands at the front of a buffer after a call that is done
-pub laid_front : {A : Type 0} (z : A) (o : Outcome) (room k : ℕ) (cells d : List A) → d ≡ laid z o room cells → o ≡ Done → length cells ≡ k → take k d ≡ cells
+pub laid_front : {A : Type 0} (z : A) (o : Outcome) (room k : ℕ) (cells d : List A) → d ≡ laid z o room cells → o ≡ Ok tt → length cells ≡ k → take k d ≡ cells
 unfolding laid
 laid_front z o room k cells d e h l = rw (e, h) (take_at cells _ k l)
 
@@ -109,25 +107,25 @@ module _ (prices : List Float) (rows w s : ℕ) where
   sampling_parts = first_append (sizes (length prices) rows w) rest
 
   -- so its buffer is never too short
-  rest_done : first (sizes (length prices) rows w) ≡ Done → first rest ≡ Done
+  rest_done : first (sizes (length prices) rows w) ≡ Ok tt → first rest ≡ Ok tt
   unfolding rest
   rest_done e = table_pass _ ShortBuffer [] (le-ltb 4096 (kept_rows rows s * w) (kept_cells (sized_done (length prices) rows w e).small)) ∙ table_end
 
-  sampling_refused : (r : Refusal) → sampling_outcome prices rows w s 4096 ≡ Refused r → first (sizes (length prices) rows w) ≡ Refused r
+  sampling_refused : (r : Refusal) → sampling_outcome prices rows w s 4096 ≡ Err r → first (sizes (length prices) rows w) ≡ Err r
   unfolding and_then
   sampling_refused r e = go (first (sizes (length prices) rows w)) rest_done (sym sampling_parts ∙ e)
     where
-      go : (o : Outcome) → (o ≡ Done → first rest ≡ Done) → and_then o (first rest) ≡ Refused r → o ≡ Refused r
-      go Done f e = sym (f refl) ∙ e
-      go (Refused k) f e = e
+      go : (o : Outcome) → (o ≡ Ok tt → first rest ≡ Ok tt) → and_then o (first rest) ≡ Err r → o ≡ Err r
+      go (Ok _) f e = sym (f refl) ∙ e
+      go (Err k) f e = e
 
   -- a refused sample: the made returns are refused as well
-  module _ (room : ℕ) (a : Answer) (r : Refusal) (e : a ≡ sampled_answer prices rows w s 4096) (h : a ≡ answer.Refused r) where
-    refused_sizes : first (sizes (length prices) rows w) ≡ Refused r
+  module _ (room : ℕ) (a : Answer) (r : Refusal) (e : a ≡ sampled_answer prices rows w s 4096) (h : a ≡ Err r) where
+    refused_sizes : first (sizes (length prices) rows w) ≡ Err r
     unfolding sampled_answer
     refused_sizes = sampling_refused r (answer_refused _ _ _ r (sym e ∙ h))
 
-    made_refused : made_outcome prices rows w s room ≡ Refused r
+    made_refused : made_outcome prices rows w s room ≡ Err r
     unfolding made_outcome
     made_refused = first_refused (sizes (length prices) rows w) _ r refused_sizes
 
@@ -140,8 +138,8 @@ module _ (prices : List Float) (rows w s : ℕ) where
     refused_laid d z = z ∙ laid_refused pz _ r room _ made_refused
 
   -- an accepted sample of k rows, in d
-  module _ (a : Answer) (k v : ℕ) (e : a ≡ sampled_answer prices rows w s 4096) (h : a ≡ answer.Matrix k v) where
-    told : (sampling_outcome prices rows w s 4096 ≡ Done) × (k ≡ kept_rows rows s)
+  module _ (a : Answer) (k v : ℕ) (e : a ≡ sampled_answer prices rows w s 4096) (h : a ≡ Ok (size k v)) where
+    told : (sampling_outcome prices rows w s 4096 ≡ Ok tt) × (k ≡ kept_rows rows s)
     unfolding sampled_answer
     told = answer_made _ _ _ k v (sym e ∙ h)
 
@@ -156,7 +154,7 @@ module _ (prices : List Float) (rows w s : ℕ) where
     accepted_front d f = laid_front pz _ 4096 (k * w) _ d f told.0 (rw told.1 length_sampled)
 
     -- the sizes of the sample
-    sample_sizes : first (sizes (length (sampled prices rows w s)) (kept_rows rows s) w) ≡ Done
+    sample_sizes : first (sizes (length (sampled prices rows w s)) (kept_rows rows s) w) ≡ Ok tt
     sample_sizes =
         sizes_pass _ (kept_rows rows s) w
         record { tall = omega (arith, kept_le rows s, accepted_sized.tall); wide = accepted_sized.wide; small = kept_cells accepted_sized.small; cells = length_sampled }
@@ -190,7 +188,7 @@ module _ (prices : List Float) (rows w s room : ℕ) where
       omega (arith, kept_cells prices rows w s z.small)
 
   -- of a matrix that is not refused, in a buffer that holds any, the price rules are what is left
-  pub made_judged : Sized (length prices) rows w → 4096 ≤ room → made_outcome prices rows w s room ≡ or_else (no_returns prices rows w s) NoData Done
+  pub made_judged : Sized (length prices) rows w → 4096 ≤ room → made_outcome prices rows w s room ≡ or_else (no_returns prices rows w s) NoData (Ok tt)
   unfolding made_outcome
   made_judged z h =
       first_done (sizes (length prices) rows w) _ (sizes_pass (length prices) rows w z)
@@ -202,7 +200,7 @@ module _ (prices : List Float) (rows w s room : ℕ) where
     pub sized : Sized (length (made_returns prices rows w s)) (kept_rows rows s - 1) w
     pub clean : no_returns prices rows w s ≡ false
 
-  pub made_done : made_outcome prices rows w s room ≡ Done → Made
+  pub made_done : made_outcome prices rows w s room ≡ Ok tt → Made
   unfolding made_outcome no_returns breaks_price_rules
   made_done e =
       let b = both_done (first (sizes (length prices) rows w)) _ (sym (first_append (sizes (length prices) rows w) _) ∙ e) in
@@ -215,14 +213,14 @@ module _ (prices : List Float) (rows w s room : ℕ) where
       }
 
   -- the answer and the buffer of an accepted call: k rows, and the returns at the front
-  pub made_answer_lem : (a : Answer) (k v : ℕ) → a ≡ made_answer prices rows w s room → a ≡ answer.Matrix k v → (made_outcome prices rows w s room ≡ Done) × (k ≡ kept_rows rows s - 1)
+  pub made_answer_lem : (a : Answer) (k v : ℕ) → a ≡ made_answer prices rows w s room → a ≡ Ok (size k v) → (made_outcome prices rows w s room ≡ Ok tt) × (k ≡ kept_rows rows s - 1)
   unfolding made_answer
   made_answer_lem a k v e h = answer_made _ _ _ k v (sym e ∙ h)
 
-  pub made_refusal : (a : Answer) (r : Refusal) → a ≡ made_answer prices rows w s room → a ≡ answer.Refused r → made_outcome prices rows w s room ≡ Refused r
+  pub made_refusal : (a : Answer) (r : Refusal) → a ≡ made_answer prices rows w s room → a ≡ Err r → made_outcome prices rows w s room ≡ Err r
   unfolding made_answer
   made_refusal a r e h = answer_refused _ _ _ r (sym e ∙ h)
 
-  pub made_front : (d : List Float) (k : ℕ) → d ≡ made_laid prices rows w s room → made_outcome prices rows w s room ≡ Done → k ≡ kept_rows rows s - 1 → take (k * w) d ≡ made_returns prices rows w s
+  pub made_front : (d : List Float) (k : ℕ) → d ≡ made_laid prices rows w s room → made_outcome prices rows w s room ≡ Ok tt → k ≡ kept_rows rows s - 1 → take (k * w) d ≡ made_returns prices rows w s
   unfolding made_laid
   made_front d k e h i = laid_front pz _ room (k * w) _ d e h (rw i length_made)

@@ -1,36 +1,32 @@
 -- What both allocators do with the matrices that they are given. Definitions only.
-use Rattle.std.specs.Prelude.{ℕ, ◌*◌, ◌-◌, Bool, true, false, not, ◌||◌, List, [], ◌∷◌, ◌++◌, ltb, eqb, length, Float}
+use Rattle.std.specs.Prelude.{ℕ, ◌*◌, ◌-◌, Bool, true, false, not, ◌||◌, List, [], ◌∷◌, ◌++◌, ltb, eqb, length, Float, Some, None}
 use Rattle.arithmetic.specs.Constants.{pz}
-use Rattle.refusal.specs.Table.{Line, first}
+use Rattle.refusal.specs.Table.{Line, first, Outcome}
 use Rattle.refusal.specs.declared.Refusal.TheVariants.{NoData, OverLimit, SliceLength, ShortBuffer}
-use Rattle.refusal.specs.declared.Outcome.{Outcome}
 use Rattle.lent.specs.Grid.{grid}
-use Rattle.lent.specs.Lent.{most_assets, too_big, misfits, sizes, laid, answer_of}
-use Rattle.lent.specs.declared.Shape.{Shape}
-use Rattle.lent.specs.declared.Shape.TheVariants.{Absent, Of}
-use Rattle.lent.specs.declared.Answer.{Answer}
+use Rattle.lent.specs.Lent.{most_assets, too_big, misfits, sizes, laid, answer_of, Answer, Shape}
 use Rattle.resample.specs.Resample.{kept_rows, sampled_cell, return_cell, breaks_price_rules}
 
 -- ---- a matrix that may be absent
 
 unfoldable pub absent : Shape → Bool
-absent Absent = true
-absent (Of rows w) = false
+absent None = true
+absent (Some s) = false
 
 -- its rows, 0 where it is absent
 unfoldable pub rows_of_shape : Shape → ℕ
-rows_of_shape Absent = 0
-rows_of_shape (Of rows w) = rows
+rows_of_shape None = 0
+rows_of_shape (Some s) = s.rows
 
 -- given, with columns other than n
 unfoldable pub other_columns : Shape → ℕ → Bool
-other_columns Absent n = false
-other_columns (Of rows w) n = not (eqb w n)
+other_columns None n = false
+other_columns (Some s) n = not (eqb s.columns n)
 
 -- given, and not n by n
 unfoldable pub other_size : Shape → ℕ → Bool
-other_size Absent n = false
-other_size (Of rows w) n = not (eqb rows n) || not (eqb w n)
+other_size None n = false
+other_size (Some s) n = not (eqb s.rows n) || not (eqb s.columns n)
 
 -- "Always 9, 10, 11 first": 9 over the asset count and all the matrices, then 10 over all; p, r and c are the shapes of prices, returns and covariance, each with its slice's length
 unfoldable pub matrix_lines : ℕ → Shape → ℕ → Shape → ℕ → Shape → ℕ → List Line

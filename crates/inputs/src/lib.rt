@@ -5,84 +5,64 @@ ghost use Rattle.std.specs.Prelude.{◌≡◌, length};
 ghost use Rattle.refusal.specs.Table.{first};
 ghost use Rattle.inputs.specs.Inputs.{absent, rows_of_shape, other_columns, other_size, matrix_lines, made_answer, made_laid};
 
-use lent::{Answer, Shape};
-use refusal::{Outcome, Refusal};
+use lent::Size;
+use refusal::Refusal;
 
 // Whether the matrix is not given.
-pub fn is_absent(shape: Shape) -> bool
+#[tactic(auto, unfolding(crate::specs::Inputs::absent))]
+pub fn is_absent(shape: Option<Size>) -> bool
     ensures { result ≡ absent shape }
 {
-    match shape {
-        Shape::Absent => true,
-        Shape::Of {
-            rows: _,
-            columns: _,
-        } => false,
-    }
+    shape.is_none()
 }
 
 // Its rows, 0 where it is absent.
-pub fn rows_in(shape: Shape) -> usize
+#[tactic(auto, unfolding(crate::specs::Inputs::rows_of_shape))]
+pub fn rows_in(shape: Option<Size>) -> usize
     ensures { result ≡ rows_of_shape shape }
 {
-    match shape {
-        Shape::Absent => 0,
-        Shape::Of { rows, columns: _ } => rows,
-    }
+    shape.map_or(0, |s| s.rows)
 }
 
 // Given, with columns other than n.
-pub fn has_other_columns(shape: Shape, n: usize) -> bool
+#[tactic(auto, unfolding(crate::specs::Inputs::other_columns))]
+pub fn has_other_columns(shape: Option<Size>, n: usize) -> bool
     ensures { result ≡ other_columns shape n }
 {
-    match shape {
-        Shape::Absent => false,
-        Shape::Of { rows: _, columns } => columns != n,
-    }
+    shape.is_some_and(|s| s.columns != n)
 }
 
 // Given, and not n by n.
-pub fn has_other_size(shape: Shape, n: usize) -> bool
+#[tactic(auto, unfolding(crate::specs::Inputs::other_size))]
+pub fn has_other_size(shape: Option<Size>, n: usize) -> bool
     ensures { result ≡ other_size shape n }
 {
-    match shape {
-        Shape::Absent => false,
-        Shape::Of { rows, columns } => {
-            if rows != n {
-                return true;
-            }
-            columns != n
-        }
-    }
+    shape.is_some_and(|s| s.rows != n || s.columns != n)
 }
 
-// The refusal that the sizes give, if there is one: 9 over all, then 10 over all. From the last line to the first.
+// The refusal that the sizes give, if there is one: 9 over all, then 10 over all.
+#[tactic(auto, unfolding(crate::specs::Inputs::matrix_lines, refusal::specs::Table::first, refusal::specs::Table::or_else))]
 pub fn judge_matrices(
     n: usize,
-    prices: Shape,
+    prices: Option<Size>,
     prices_len: usize,
-    returns: Shape,
+    returns: Option<Size>,
     returns_len: usize,
-    covariance: Shape,
+    covariance: Option<Size>,
     covariance_len: usize,
-) -> Outcome
+) -> Result<(), Refusal>
     ensures { result ≡ first (matrix_lines n prices prices_len returns returns_len covariance covariance_len) }
 {
-    let o = refusal::refuse(
+    refusal::refuse(lent::MOST_ASSETS < n, Refusal::OverLimit)?;
+    refusal::refuse(lent::too_big(prices), Refusal::OverLimit)?;
+    refusal::refuse(lent::too_big(returns), Refusal::OverLimit)?;
+    refusal::refuse(lent::too_big(covariance), Refusal::OverLimit)?;
+    refusal::refuse(lent::is_misfit(prices, prices_len), Refusal::SliceLength)?;
+    refusal::refuse(lent::is_misfit(returns, returns_len), Refusal::SliceLength)?;
+    refusal::refuse(
         lent::is_misfit(covariance, covariance_len),
         Refusal::SliceLength,
-        Outcome::Done,
-    );
-    let o = refusal::refuse(
-        lent::is_misfit(returns, returns_len),
-        Refusal::SliceLength,
-        o,
-    );
-    let o = refusal::refuse(lent::is_misfit(prices, prices_len), Refusal::SliceLength, o);
-    let o = refusal::refuse(lent::too_big(covariance), Refusal::OverLimit, o);
-    let o = refusal::refuse(lent::too_big(returns), Refusal::OverLimit, o);
-    let o = refusal::refuse(lent::too_big(prices), Refusal::OverLimit, o);
-    refusal::refuse(lent::MOST_ASSETS < n, Refusal::OverLimit, o)
+    )
 }
 
 // The returns of prices, sampled first into `sampled`, which holds any matrix.
@@ -93,20 +73,13 @@ fn difference(
     columns: usize,
     step: usize,
     out: &mut [f64],
-) -> Answer
+) -> Result<Size, Refusal>
     requires { length sampled.old ≡ 4096 }
     ensures value { result ≡ made_answer prices.now rows columns step (length out.old) }
     ensures out_after { out.new ≡ made_laid prices.now rows columns step (length out.old) }
 {
-    let answer = resample::resample_prices(prices, rows, columns, step, sampled);
-    let Answer::Matrix {
-        rows: kept,
-        columns: _,
-    } = answer
-    else {
-        lent::clear(out);
-        return answer;
-    };
+    lent::clear(out);
+    let kept = resample::resample_prices(prices, rows, columns, step, sampled)?.rows;
     let cells = kept * columns;
     resample::returns_from_prices(&sampled[..cells], kept, columns, out)
 }
@@ -118,7 +91,7 @@ pub fn sampled_returns(
     columns: usize,
     step: usize,
     out: &mut [f64],
-) -> Answer
+) -> Result<Size, Refusal>
     ensures value { result ≡ made_answer prices.now rows columns step (length out.old) }
     ensures out_after { out.new ≡ made_laid prices.now rows columns step (length out.old) }
 {

@@ -9,7 +9,6 @@ use lib.Dec.{eqb}
 use lib.ListN.{length}
 use lib.Ieee.{Float}
 use Rattle.arithmetic.specs.Constants.{pz}
-use Rattle.refusal.specs.declared.Outcome.TheVariants as outcome
 use Rattle.refusal.proofs.Tables.{none, parts_done}
 use Rattle.lent.specs.Grid.{zeros}
 use Rattle.lent.specs.Lent.{laid}
@@ -38,10 +37,11 @@ use Rattle.equal.specs.Equal.{EqualShares}
 use Rattle.metrics.specs.declared.Metric.TheVariants.{EqualWeighting}
 use Rattle.reading.specs.Reading.{assets, block_in, job_in}
 use Rattle.reading.specs.declared.Block.{Block}
-use Rattle.reading.specs.declared.Reading.{Reading}
-use Rattle.reading.specs.declared.Reading.TheVariants as reading
 use Rattle.reading.proofs.Accepted.{job_hrp, job_hcaa}
 use Rattle.job.specs.Job.{hrp_job_in, clusters_in, hcaa_job_in, room_of_hrp, room_of_hcaa, allocator_says, job_weights, job_order, job_rows}
+use Rattle.std.specs.Prelude.{Ok, Err}
+use Rattle.reading.specs.Outcomes.{Reading}
+use Rattle.reading.specs.declared.Job.TheVariants as jobs
 
 pub record Built (text : List ℕ) (job : Reading) : Type 0 where
   pub some : 0 < assets text
@@ -72,19 +72,19 @@ some_of (shares.some ws) e = refl
 
 module _ (text : List ℕ) (d : Distance) where
   module _ (b : Block) where
-    pub hrp_says : allocator_says text (reading.Hrp b d) ≡ hrp.hrp_outcome (hrp_job_in text d) room_of_hrp
+    pub hrp_says : allocator_says text (Ok (jobs.Hrp b d)) ≡ hrp.hrp_outcome (hrp_job_in text d) room_of_hrp
     unfolding allocator_says
     hrp_says = refl
 
-    pub hrp_weights : job_weights text (reading.Hrp b d) ≡ weights_in (parity.hrp_shares d (hrp.hrp_covariance (hrp_job_in text d)) b.assets)
+    pub hrp_weights : job_weights text (Ok (jobs.Hrp b d)) ≡ weights_in (parity.hrp_shares d (hrp.hrp_covariance (hrp_job_in text d)) b.assets)
     unfolding job_weights
     hrp_weights = refl
 
-    pub hrp_rows_lem : job_rows text (reading.Hrp b d) ≡ parity.hrp_rows d (hrp.hrp_covariance (hrp_job_in text d)) b.assets
+    pub hrp_rows_lem : job_rows text (Ok (jobs.Hrp b d)) ≡ parity.hrp_rows d (hrp.hrp_covariance (hrp_job_in text d)) b.assets
     unfolding job_rows
     hrp_rows_lem = refl
 
-    pub hrp_order_lem : job_order text (reading.Hrp b d) ≡ parity.hrp_order d (hrp.hrp_covariance (hrp_job_in text d)) b.assets
+    pub hrp_order_lem : job_order text (Ok (jobs.Hrp b d)) ≡ parity.hrp_order d (hrp.hrp_covariance (hrp_job_in text d)) b.assets
     unfolding job_order
     hrp_order_lem = refl
 
@@ -110,7 +110,7 @@ record Hrp-done (j : hrp.HrpJob) : Type 0 where
   some : eqb j.assets 0 ≡ false
   shared : is_none (parity.hrp_shares j.distance (hrp.hrp_covariance j) j.assets) ≡ false
 
-hrp_done : (j : hrp.HrpJob) → hrp.hrp_outcome j room_of_hrp ≡ outcome.Done → Hrp-done j
+hrp_done : (j : hrp.HrpJob) → hrp.hrp_outcome j room_of_hrp ≡ Ok tt → Hrp-done j
 unfolding hrp.hrp_outcome hrp.hrp_table hrp.hrp_shape_lines hrp.number_lines parity.hrp_risk_lines matrix_lines
 hrp_done j e =
     let sizes = matrix_lines j.assets j.prices_shape (length j.prices) j.returns_shape (length j.returns) j.covariance_shape (length j.covariance) in
@@ -119,33 +119,33 @@ hrp_done j e =
     let s = parts_done (hrp.hrp_shape_lines j) _ b.1 in
     record { few = ltb-false 64 j.assets (none sizes a.0).0; some = (none _ s.0).1.0; shared = (none _ s.1).1.1.1.1.0 }
 
-hrp_built : (text : List ℕ) (d : Distance) → hrp.hrp_outcome (hrp_job_in text d) room_of_hrp ≡ outcome.Done → Built text (reading.Hrp (block_in text) d)
+hrp_built : (text : List ℕ) (d : Distance) → hrp.hrp_outcome (hrp_job_in text d) room_of_hrp ≡ Ok tt → Built text (Ok (jobs.Hrp (block_in text) d))
 unfolding hrp_job_in block_in
 hrp_built text d e =
     let n = assets text in
     let b = block_in text in
     let cov = hrp.hrp_covariance (hrp_job_in text d) in
     let g = hrp_done (hrp_job_in text d) e in
-    grown text (reading.Hrp b d) g.few g.some Single (hrp_distances_lem n cov d)
+    grown text (Ok (jobs.Hrp b d)) g.few g.some Single (hrp_distances_lem n cov d)
     (hrp_rows_lem text d b ∙ hrp_merged n cov d) (hrp_order_lem text d b ∙ hrp_leaves n cov d) (ap length (hrp_weights text d b) ∙ hrp_length n cov d g.shared)
 
 -- ---- HCAA's
 
 module _ (text : List ℕ) (l : Linkage) (d : Distance) where
   module _ (b : Block) where
-    pub hcaa_says : allocator_says text (reading.Hcaa b l d) ≡ hcaa.hcaa_outcome (hcaa_job_in text l d) room_of_hcaa
+    pub hcaa_says : allocator_says text (Ok (jobs.Hcaa b l d)) ≡ hcaa.hcaa_outcome (hcaa_job_in text l d) room_of_hcaa
     unfolding allocator_says
     hcaa_says = refl
 
-    pub hcaa_weights : job_weights text (reading.Hcaa b l d) ≡ weights_in (hierarchy.hcaa_shares (hcaa.used_rule (hcaa_job_in text l d)) d l (hcaa.hcaa_covariance (hcaa_job_in text l d)) b.assets)
+    pub hcaa_weights : job_weights text (Ok (jobs.Hcaa b l d)) ≡ weights_in (hierarchy.hcaa_shares (hcaa.used_rule (hcaa_job_in text l d)) d l (hcaa.hcaa_covariance (hcaa_job_in text l d)) b.assets)
     unfolding job_weights
     hcaa_weights = refl
 
-    pub hcaa_rows_lem : job_rows text (reading.Hcaa b l d) ≡ hierarchy.hcaa_rows d l (hcaa.hcaa_covariance (hcaa_job_in text l d)) b.assets
+    pub hcaa_rows_lem : job_rows text (Ok (jobs.Hcaa b l d)) ≡ hierarchy.hcaa_rows d l (hcaa.hcaa_covariance (hcaa_job_in text l d)) b.assets
     unfolding job_rows
     hcaa_rows_lem = refl
 
-    pub hcaa_order_lem : job_order text (reading.Hcaa b l d) ≡ hierarchy.hcaa_order d l (hcaa.hcaa_covariance (hcaa_job_in text l d)) b.assets
+    pub hcaa_order_lem : job_order text (Ok (jobs.Hcaa b l d)) ≡ hierarchy.hcaa_order d l (hcaa.hcaa_covariance (hcaa_job_in text l d)) b.assets
     unfolding job_order
     hcaa_order_lem = refl
 
@@ -173,7 +173,7 @@ record Hcaa-done (j : hcaa.HcaaJob) : Type 0 where
   some : eqb j.assets 0 ≡ false
   shared : is_none (hierarchy.hcaa_shares (hcaa.used_rule j) j.distance j.linkage (hcaa.hcaa_covariance j) j.assets) ≡ false
 
-hcaa_done : (j : hcaa.HcaaJob) → hcaa.hcaa_outcome j room_of_hcaa ≡ outcome.Done → Hcaa-done j
+hcaa_done : (j : hcaa.HcaaJob) → hcaa.hcaa_outcome j room_of_hcaa ≡ Ok tt → Hcaa-done j
 unfolding hcaa.hcaa_outcome hcaa.hcaa_table hcaa.name_lines hcaa.names_judged hierarchy.share_lines hierarchy.hcaa_risk_lines matrix_lines
 hcaa_done j e =
     let sizes = matrix_lines j.assets j.prices_shape (length j.prices) j.returns_shape (length j.returns) j.covariance_shape (length j.covariance) in
@@ -185,39 +185,39 @@ hcaa_done j e =
     let w = parts_done (hierarchy.rule_lines (hcaa.used_rule j) j.assets) _ u.1 in
     record { few = ltb-false 64 j.assets (none sizes a.0).0; some = (none _ s.0).1.1.0; shared = (none _ w.1).1.0 }
 
-hcaa_built : (text : List ℕ) (l : Linkage) (d : Distance) → hcaa.hcaa_outcome (hcaa_job_in text l d) room_of_hcaa ≡ outcome.Done → Built text (reading.Hcaa (block_in text) l d)
+hcaa_built : (text : List ℕ) (l : Linkage) (d : Distance) → hcaa.hcaa_outcome (hcaa_job_in text l d) room_of_hcaa ≡ Ok tt → Built text (Ok (jobs.Hcaa (block_in text) l d))
 unfolding hcaa_job_in block_in
 hcaa_built text l d e =
     let n = assets text in
     let b = block_in text in
     let cov = hcaa.hcaa_covariance (hcaa_job_in text l d) in
     let g = hcaa_done (hcaa_job_in text l d) e in
-    grown text (reading.Hcaa b l d) g.few g.some l (hcaa_distances n cov l d)
+    grown text (Ok (jobs.Hcaa b l d)) g.few g.some l (hcaa_distances n cov l d)
     (hcaa_rows_lem text l d b ∙ hcaa_merged n cov l d) (hcaa_order_lem text l d b ∙ hcaa_leaves n cov l d) (ap length (hcaa_weights text l d b) ∙ hcaa_length n cov l d _ g.shared)
 
 -- ---- either
 
-built_as : (text : List ℕ) (job : Reading) → job_in text ≡ job → allocator_says text job ≡ outcome.Done → Built text job
+built_as : (text : List ℕ) (job : Reading) → job_in text ≡ job → allocator_says text job ≡ Ok tt → Built text job
 unfolding allocator_says
-built_as text (reading.Refused r) j e = absurd (let z : ◌≡◌ {A = ℕ} 0 1 = cc in omega arith)
-built_as text (reading.Hrp b d) j e = subst (λ (k : Block). Built text (reading.Hrp k d)) (sym (job_hrp text b d j).block_is) (hrp_built text d e)
-built_as text (reading.Hcaa b l d) j e = subst (λ (k : Block). Built text (reading.Hcaa k l d)) (sym (job_hcaa text b l d j).block_is) (hcaa_built text l d e)
+built_as text (Err r) j e = absurd (let z : ◌≡◌ {A = ℕ} 0 1 = cc in omega arith)
+built_as text (Ok (jobs.Hrp b d)) j e = subst (λ (k : Block). Built text (Ok (jobs.Hrp k d))) (sym (job_hrp text b d j).block_is) (hrp_built text d e)
+built_as text (Ok (jobs.Hcaa b l d)) j e = subst (λ (k : Block). Built text (Ok (jobs.Hcaa k l d))) (sym (job_hcaa text b l d j).block_is) (hcaa_built text l d e)
 
-pub built : (text : List ℕ) → allocator_says text (job_in text) ≡ outcome.Done → Built text (job_in text)
+pub built : (text : List ℕ) → allocator_says text (job_in text) ≡ Ok tt → Built text (job_in text)
 built text e = built_as text (job_in text) refl e
 
 -- ---- demand 3
 
 -- buffers as an accepted job leaves them
-laid_out : (j : hcaa.HcaaJob) (room : hierarchy.Room) → hcaa.hcaa_outcome j room ≡ outcome.Done
-    → hcaa.HcaaAllocated j room outcome.Done
+laid_out : (j : hcaa.HcaaJob) (room : hierarchy.Room) → hcaa.hcaa_outcome j room ≡ Ok tt
+    → hcaa.HcaaAllocated j room (Ok tt)
     (laid 0 (hcaa.hcaa_outcome j room) room.rows (hierarchy.hcaa_rows j.distance j.linkage (hcaa.hcaa_covariance j) j.assets))
     (laid 0 (hcaa.hcaa_outcome j room) room.order (hierarchy.hcaa_order j.distance j.linkage (hcaa.hcaa_covariance j) j.assets))
     (laid pz (hcaa.hcaa_outcome j room) room.weights (weights_in (hierarchy.hcaa_shares (hcaa.used_rule j) j.distance j.linkage (hcaa.hcaa_covariance j) j.assets)))
     (zeros room.scratch)
-laid_out j room o = allocated j room outcome.Done _ _ _ _ (sym o) (record { rows_are = refl; order_is = refl; weights_are = refl; scratch_is = refl })
+laid_out j room o = allocated j room (Ok tt) _ _ _ _ (sym o) (record { rows_are = refl; order_is = refl; weights_are = refl; scratch_is = refl })
 
-equal_weights : (j : hcaa.HcaaJob) → hcaa.hcaa_outcome j room_of_hcaa ≡ outcome.Done → hcaa.used_metric j ≡ EqualWeighting
+equal_weights : (j : hcaa.HcaaJob) → hcaa.hcaa_outcome j room_of_hcaa ≡ Ok tt → hcaa.used_metric j ≡ EqualWeighting
     → EqualShares j.assets (hcaa.cluster_count j.clusters j.assets) (hierarchy.hcaa_rows j.distance j.linkage (hcaa.hcaa_covariance j) j.assets)
     (weights_in (hierarchy.hcaa_shares (hcaa.used_rule j) j.distance j.linkage (hcaa.hcaa_covariance j) j.assets))
 equal_weights j o e =
@@ -232,7 +232,7 @@ equal_weights j o e =
 
 -- of the text's own job
 module _ (text : List ℕ) (l : Linkage) (d : Distance) where
-  pub equal_text : hcaa.hcaa_outcome (hcaa_job_in text l d) room_of_hcaa ≡ outcome.Done → hcaa.used_metric (hcaa_job_in text l d) ≡ EqualWeighting
+  pub equal_text : hcaa.hcaa_outcome (hcaa_job_in text l d) room_of_hcaa ≡ Ok tt → hcaa.used_metric (hcaa_job_in text l d) ≡ EqualWeighting
       → EqualShares (assets text) (hcaa.cluster_count (clusters_in text) (assets text)) (hierarchy.hcaa_rows d l (hcaa.hcaa_covariance (hcaa_job_in text l d)) (assets text))
       (weights_in (hierarchy.hcaa_shares (hcaa.used_rule (hcaa_job_in text l d)) d l (hcaa.hcaa_covariance (hcaa_job_in text l d)) (assets text)))
   unfolding hcaa_job_in

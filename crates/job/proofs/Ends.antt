@@ -8,11 +8,9 @@ use borrow.Author.Tests.{lt-ltb, le-ltb, le-leb, eq-eqb, ne_eqb}
 use lib.Dec.{ltb}
 use lib.ListN.{length, take, get_or, length-take}
 use lib.Ieee.{Float}
-use Rattle.refusal.specs.Table.{Line, first, or_else, and_then}
+use Rattle.refusal.specs.Table.{Line, first, or_else, and_then, Outcome}
 use Rattle.refusal.specs.declared.Refusal.{Refusal}
 use Rattle.refusal.specs.declared.Refusal.TheVariants.{NoData, DimensionMismatch, OverLimit, ShortBuffer, NoTree, MalformedText}
-use Rattle.refusal.specs.declared.Outcome.{Outcome}
-use Rattle.refusal.specs.declared.Outcome.TheVariants.{Done, Refused}
 use Rattle.refusal.proofs.Tables.{table, table_hit, table_pass, table_end, then_done, then_refused, both_done}
 use Rattle.lent.specs.Grid.{noughts}
 use Rattle.lent.proofs.Laws.{length_tab}
@@ -24,8 +22,6 @@ use Rattle.reading.specs.Reading.{assets, name_of, name_start, starts_in, ceilin
 use Rattle.reading.proofs.Answer.{outcome_done}
 use Rattle.reading.proofs.Accepted.{Accepted, accepted, name_short, name_at, start_kept, ceilings_like}
 use Rattle.listing.specs.Listing.{listing, name_in, is_short, sheet_lines, sheet_outcome, ListingMade}
-use Rattle.listing.specs.declared.Listed.{Listed}
-use Rattle.listing.specs.declared.Listed.TheVariants as listed
 use Rattle.listing.proofs.Lines.{listing_ext}
 use Rattle.listing.proofs.Sheets.{made_refused}
 use Rattle.groups.specs.Groups.{least_sheet, group_lines, group_outcome, group_sheet}
@@ -36,14 +32,16 @@ use Rattle.job.specs.declared.Form.TheVariants as form
 use Rattle.job.specs.Inner.{BlankListing, Placed, text_says, Allotted, Told}
 use Rattle.job.specs.Job.{room_of_reader, allocator_says, job_weights, job_order, job_rows, figures_of, text_table, job_outcome, least_for, listing_of, sheet_of, printed_of}
 use Rattle.job.proofs.Built.{built}
+use Rattle.std.specs.Prelude.{Ok, Err}
+use Rattle.listing.specs.Outcomes.{Listed}
 
 -- ---- the definitions, one step at a time
 
 -- stages, whichever two go together
 then_then : (a b c : Outcome) → and_then a (and_then b c) ≡ and_then (and_then a b) c
 unfolding and_then
-then_then Done b c = refl
-then_then (Refused r) b c = refl
+then_then (Ok _) b c = refl
+then_then (Err r) b c = refl
 
 -- 13, 18 and 20
 abbrev figured : List ℕ → Outcome
@@ -83,7 +81,7 @@ module _ (text : List ℕ) (f : Form) (room : ℕ) (h : least_for f ≤ room) wh
       ∙ ap (λ (o : Outcome). and_then o (and_then (allocator_says text (job_in text)) (figured text))) table_said
       ∙ then_then (read_outcome text room_of_reader) (allocator_says text (job_in text)) (figured text)
 
-told_refused : (text : List ℕ) (f : Form) (room : ℕ) (k : Refusal) (out : List ℕ) → job_outcome text f room ≡ Refused k → out ≡ noughts room → Told text f room (listed.Refused k) out
+told_refused : (text : List ℕ) (f : Form) (room : ℕ) (k : Refusal) (out : List ℕ) → job_outcome text f room ≡ Err k → out ≡ noughts room → Told text f room (Err k) out
 told_refused text f room k out e z = made_refused (job_outcome text f room) (printed_of text f) room out k e z
 
 -- a room by another name
@@ -96,26 +94,26 @@ cleared f room out e k h = record { room = h; zero = e ∙ ap noughts (sym k) }
 -- ---- a buffer that does not
 
 module _ (text : List ℕ) (f : Form) (room : ℕ) (h : room < least_for f) where
-  table_short : first (lines text f room) ≡ Refused (cond (ltb 65536 (length text)) OverLimit ShortBuffer)
+  table_short : first (lines text f room) ≡ Err (cond (ltb 65536 (length text)) OverLimit ShortBuffer)
   unfolding or_else
   table_short =
       table (ltb 65536 (length text)) OverLimit ((ltb room (least_for f), ShortBuffer) ∷ text_lines text)
       ∙ ap (or_else (ltb 65536 (length text)) OverLimit) (table_hit (ltb room (least_for f)) ShortBuffer (text_lines text) (lt-ltb room (least_for f) h))
       ∙ go (ltb 65536 (length text))
     where
-      go : (b : Bool) → or_else b OverLimit (Refused ShortBuffer) ≡ Refused (cond b OverLimit ShortBuffer)
+      go : (b : Bool) → or_else b OverLimit (Err ShortBuffer) ≡ Err (cond b OverLimit ShortBuffer)
       go true = refl
       go false = refl
 
-  pub told_short : (k : Refusal) (out : List ℕ) → out ≡ noughts room → k ≡ cond (ltb 65536 (length text)) OverLimit ShortBuffer → Told text f room (listed.Refused k) out
-  told_short k out z e = told_refused text f room k out (job_is text f room ∙ then_refused (first (lines text f room)) _ k (table_short ∙ ap Refused (sym e))) z
+  pub told_short : (k : Refusal) (out : List ℕ) → out ≡ noughts room → k ≡ cond (ltb 65536 (length text)) OverLimit ShortBuffer → Told text f room (Err k) out
+  told_short k out z e = told_refused text f room k out (job_is text f room ∙ then_refused (first (lines text f room)) _ k (table_short ∙ ap Err (sym e))) z
 
 -- a text that is printed has an allocator that accepts it
-pub allocator_done : (text : List ℕ) (f : Form) (room : ℕ) → job_outcome text f room ≡ Done → allocator_says text (job_in text) ≡ Done
+pub allocator_done : (text : List ℕ) (f : Form) (room : ℕ) → job_outcome text f room ≡ Ok tt → allocator_says text (job_in text) ≡ Ok tt
 allocator_done text f room e = (both_done _ _ (both_done (first (lines text f room)) _ (sym (job_is text f room) ∙ e)).1).0
 
 -- and figures that 13, 18 and 20 let pass
-pub figures_done : (text : List ℕ) (f : Form) (room : ℕ) → job_outcome text f room ≡ Done → first (figures_lines (job_weights text (job_in text)) (ceilings_in text)) ≡ Done
+pub figures_done : (text : List ℕ) (f : Form) (room : ℕ) → job_outcome text f room ≡ Ok tt → first (figures_lines (job_weights text (job_in text)) (ceilings_in text)) ≡ Ok tt
 figures_done text f room e = (both_done _ _ (both_done (first (lines text f room)) _ (sym (job_is text f room) ∙ e)).1).1
 
 -- every entry passes
@@ -130,7 +128,7 @@ taken n l e = let z = length-take n l in omega arith
 
 -- ---- a job that was read: its names
 
-module _ (text starts : List ℕ) (done : read_outcome text room_of_reader ≡ Done) (places : starts ≡ starts_in text) where
+module _ (text starts : List ℕ) (done : read_outcome text room_of_reader ≡ Ok tt) (places : starts ≡ starts_in text) where
   good : Accepted text
   good = accepted text room_of_reader done
 
@@ -157,11 +155,11 @@ module _ (text : List ℕ) (found : Allotment) (q : Allotted text found) where
   said_told : (f : Form) (room : ℕ) → least_for f ≤ room → job_outcome text f room ≡ and_then found.said (figured text)
   said_told f room h = job_told text f room h ∙ ap (λ (s : Outcome). and_then s (figured text)) (sym q.is)
 
-  pub ends_refused : (f : Form) (out : List ℕ) → BlankListing f out → (k : Refusal) → found.said ≡ Refused k → Told text f (length out) (listed.Refused k) out
+  pub ends_refused : (f : Form) (out : List ℕ) → BlankListing f out → (k : Refusal) → found.said ≡ Err k → Told text f (length out) (Err k) out
   ends_refused f out blank k e = told_refused text f (length out) k out (said_told f (length out) blank.room ∙ then_refused found.said _ k e) blank.zero
 
-  module _ (starts ceilings : List ℕ) (p : Placed text starts ceilings) (e : found.said ≡ Done) where
-    both : (read_outcome text room_of_reader ≡ Done) × (allocator_says text (job_in text) ≡ Done)
+  module _ (starts ceilings : List ℕ) (p : Placed text starts ceilings) (e : found.said ≡ Ok tt) where
+    both : (read_outcome text room_of_reader ≡ Ok tt) × (allocator_says text (job_in text) ≡ Ok tt)
     unfolding text_says
     both = both_done _ _ (sym q.is ∙ e)
 
@@ -217,7 +215,7 @@ module _ (text : List ℕ) (found : Allotment) (q : Allotted text found) where
     os_fit = taken (length starts) found.order os_size
 
     module _ (room : ℕ) (h : least_for form.Listing ≤ room) where
-      passed : first (sheet_lines text starts (length ws) ceilings os room) ≡ Done
+      passed : first (sheet_lines text starts (length ws) ceilings os room) ≡ Ok tt
       unfolding sheet_lines least_for
       passed =
           table_pass _ OverLimit _ (le-ltb 65536 (length text) (outcome_done text room_of_reader both.0).0.short)
@@ -271,7 +269,7 @@ module _ (text : List ℕ) (found : Allotment) (q : Allotted text found) where
     some = omega (arith, count, (built text both.1).some)
 
     module _ (named : Bool) (room : ℕ) (h : least_for (form.Sheet named) ≤ room) where
-      grouped : first (group_lines text starts (length ws) ceilings rs named room) ≡ Done
+      grouped : first (group_lines text starts (length ws) ceilings rs named room) ≡ Ok tt
       unfolding group_lines least_for
       grouped =
           table_pass _ OverLimit _ (le-ltb 65536 (length text) (outcome_done text room_of_reader both.0).0.short)

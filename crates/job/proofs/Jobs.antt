@@ -8,12 +8,8 @@ use lib.ListN.{length, take}
 use lib.Ieee.{Float}
 use Rattle.arithmetic.specs.Constants.{pz}
 use Rattle.refusal.specs.declared.Refusal.{Refusal}
-use Rattle.refusal.specs.declared.Outcome.{Outcome}
-use Rattle.refusal.specs.declared.Outcome.TheVariants as outcome
 use Rattle.refusal.proofs.Tables.{done_refused, then_done, then_refused}
-use Rattle.lent.specs.Lent.{laid, shape_of}
-use Rattle.lent.specs.declared.Shape.{Shape}
-use Rattle.lent.specs.declared.Shape.TheVariants.{Absent}
+use Rattle.lent.specs.Lent.{laid, shape_of, Shape}
 use Rattle.lent.proofs.Laws.{length_tab, length_grid}
 use Rattle.inputs.proofs.Laws.{laid_front}
 use Rattle.tree.proofs.Rows.{is_tree_lem, is_order_lem}
@@ -26,17 +22,19 @@ use Rattle.hrp.specs.Hrp as hrp
 use Rattle.hierarchy.specs.Hierarchy as hierarchy
 use Rattle.hcaa.specs.Inner.{hcaa_job}
 use Rattle.hcaa.specs.Hcaa as hcaa
-use Rattle.hcaa.specs.declared.Clusters.{Clusters}
 use Rattle.text.specs.Bytes.{bytes}
 use Rattle.reading.specs.Reading.{rows_in, assets, text_cell, cells_in, name_start, starts_in, ceilings_in, read_outcome, block_in, job_in, read_of, cells_laid, starts_laid, ceilings_laid, JobRead}
 use Rattle.reading.specs.declared.Block.{Block}
-use Rattle.reading.specs.declared.Reading.{Reading}
-use Rattle.reading.specs.declared.Reading.TheVariants as reading
 use Rattle.reading.proofs.Accepted.{accepted, job_hrp, job_hcaa, read_hrp, read_hcaa, read_refused, ceilings_length}
 use Rattle.job.specs.declared.Allotment.{Allotment}
 use Rattle.job.specs.Job.{cells_if, hrp_job_in, metric_in, clusters_in, confidence, hcaa_job_in, room_of_reader, room_of_hrp, room_of_hcaa, allocator_says, job_weights, job_order, job_rows}
 use Rattle.job.specs.Inner.{Read, block_read, Held, Placed, AllocatorAnswer, text_says, Allotted}
 use Rattle.job.proofs.Built.{built, hrp_says, hrp_weights, hrp_rows_lem, hrp_order_lem, hcaa_says, hcaa_weights, hcaa_rows_lem, hcaa_order_lem}
+use Rattle.std.specs.Prelude.{Ok, None, Err}
+use Rattle.hcaa.specs.Outcomes.{Clusters}
+use Rattle.reading.specs.Outcomes.{Reading}
+use Rattle.refusal.specs.Table.{Outcome}
+use Rattle.reading.specs.declared.Job.TheVariants as jobs
 
 -- ---- what was read
 
@@ -45,22 +43,22 @@ pub record Held-by-reader (b : Block) : Type 0 where
   pub cells_few : b.rows * b.assets ≤ 4096
   pub few : b.assets ≤ 64
 
-in_text : (text : List ℕ) → read_outcome text room_of_reader ≡ outcome.Done → Held-by-reader (block_in text)
+in_text : (text : List ℕ) → read_outcome text room_of_reader ≡ Ok tt → Held-by-reader (block_in text)
 unfolding block_in
 in_text text o = let z = accepted text room_of_reader o in record { cells_few = z.cells_few; few = z.few }
 
 module _ (text : List ℕ) where
   sized_as : (said : Reading) → said ≡ read_of text room_of_reader → Held-by-reader (block_read said)
   unfolding block_read
-  sized_as (reading.Refused r) e = record { cells_few = omega arith; few = omega arith }
-  sized_as (reading.Hrp b d) e = let t = read_hrp text room_of_reader b d (sym e) in subst Held-by-reader (sym (job_hrp text b d t.1).block_is) (in_text text t.0)
-  sized_as (reading.Hcaa b l d) e = let t = read_hcaa text room_of_reader b l d (sym e) in subst Held-by-reader (sym (job_hcaa text b l d t.1).block_is) (in_text text t.0)
+  sized_as (Err r) e = record { cells_few = omega arith; few = omega arith }
+  sized_as (Ok (jobs.Hrp b d)) e = let t = read_hrp text room_of_reader b d (sym e) in subst Held-by-reader (sym (job_hrp text b d t.1).block_is) (in_text text t.0)
+  sized_as (Ok (jobs.Hcaa b l d)) e = let t = read_hcaa text room_of_reader b l d (sym e) in subst Held-by-reader (sym (job_hcaa text b l d t.1).block_is) (in_text text t.0)
 
-  block_as : (said : Reading) → said ≡ read_of text room_of_reader → read_outcome text room_of_reader ≡ outcome.Done → block_read said ≡ block_in text
+  block_as : (said : Reading) → said ≡ read_of text room_of_reader → read_outcome text room_of_reader ≡ Ok tt → block_read said ≡ block_in text
   unfolding block_read
-  block_as (reading.Refused r) e o = absurd (done_refused r (sym o ∙ read_refused text room_of_reader r (sym e)))
-  block_as (reading.Hrp b d) e o = (job_hrp text b d (read_hrp text room_of_reader b d (sym e)).1).block_is
-  block_as (reading.Hcaa b l d) e o = (job_hcaa text b l d (read_hcaa text room_of_reader b l d (sym e)).1).block_is
+  block_as (Err r) e o = absurd (done_refused r (sym o ∙ read_refused text room_of_reader r (sym e)))
+  block_as (Ok (jobs.Hrp b d)) e o = (job_hrp text b d (read_hrp text room_of_reader b d (sym e)).1).block_is
+  block_as (Ok (jobs.Hcaa b l d)) e o = (job_hcaa text b l d (read_hcaa text room_of_reader b l d (sym e)).1).block_is
 
 limited : (b : Bool) (n : ℕ) → cond b n 0 ≤ n
 limited true n = omega arith
@@ -80,7 +78,7 @@ module _ (text : List ℕ) (said : Reading) (cells : List Float) (starts ceiling
   pub limits_fit : length ceilings ≡ 64 → (k : ℕ) → k ≡ cond b.ceiled b.assets 0 → k ≤ length ceilings
   limits_fit l k f = omega (arith, limited b.ceiled b.assets, sized.few)
 
-  module _ (o : read_outcome text room_of_reader ≡ outcome.Done) where
+  module _ (o : read_outcome text room_of_reader ≡ Ok tt) where
     block : b ≡ block_in text
     block = e ∙ block_as text said read.answer o
 
@@ -111,13 +109,13 @@ module _ (text : List ℕ) (said : Reading) (cells : List Float) (starts ceiling
 -- ---- what goes to an allocator
 
 module _ (text : List ℕ) (said : Reading) (cells : List Float) (h : Held text said cells) where
-  pub hrp_begun : (b : Block) (d : Distance) → said ≡ reading.Hrp b d → Read text (reading.Hrp b d) cells
+  pub hrp_begun : (b : Block) (d : Distance) → said ≡ Ok (jobs.Hrp b d) → Read text (Ok (jobs.Hrp b d)) cells
   hrp_begun b d e = let t = read_hrp text room_of_reader b d (sym h.is ∙ e) in record { done = t.0; is = t.1; cells_are = h.cells_are t.0 }
 
-  pub hcaa_begun : (b : Block) (l : Linkage) (d : Distance) → said ≡ reading.Hcaa b l d → Read text (reading.Hcaa b l d) cells
+  pub hcaa_begun : (b : Block) (l : Linkage) (d : Distance) → said ≡ Ok (jobs.Hcaa b l d) → Read text (Ok (jobs.Hcaa b l d)) cells
   hcaa_begun b l d e = let t = read_hcaa text room_of_reader b l d (sym h.is ∙ e) in record { done = t.0; is = t.1; cells_are = h.cells_are t.0 }
 
-  pub unread : (r : Refusal) → said ≡ reading.Refused r → (found : Allotment) → found.said ≡ outcome.Refused r → Allotted text found
+  pub unread : (r : Refusal) → said ≡ Err r → (found : Allotment) → found.said ≡ Err r → Allotted text found
   unfolding text_says
   unread r e found f = record {
     is = f ∙ sym (then_refused _ _ r (read_refused text room_of_reader r (sym h.is ∙ e)));
@@ -126,7 +124,7 @@ module _ (text : List ℕ) (said : Reading) (cells : List Float) (h : Held text 
 
 -- ---- what an allocator left, where it was not refused, at the front of buffers of 126 and 64
 
-module _ (text : List ℕ) (o : Outcome) (is : o ≡ allocator_says text (job_in text)) (e : o ≡ outcome.Done) where
+module _ (text : List ℕ) (o : Outcome) (is : o ≡ allocator_says text (job_in text)) (e : o ≡ Ok tt) where
   answered : (merged order : List ℕ) (weights : List Float) → merged ≡ laid 0 o 126 (job_rows text (job_in text)) → order ≡ laid 0 o 64 (job_order text (job_in text)) → weights ≡ laid pz o 64 (job_weights text (job_in text))
       → AllocatorAnswer text merged order weights
   answered merged order weights a b c =
@@ -139,7 +137,7 @@ module _ (text : List ℕ) (o : Outcome) (is : o ≡ allocator_says text (job_in
       }
 
 -- an accepted text: its outcome is the allocator's
-as_said : (text : List ℕ) → read_outcome text room_of_reader ≡ outcome.Done → allocator_says text (job_in text) ≡ text_says text
+as_said : (text : List ℕ) → read_outcome text room_of_reader ≡ Ok tt → allocator_says text (job_in text) ≡ text_says text
 unfolding text_says
 as_said text o = sym (then_done (read_outcome text room_of_reader) _ o)
 
@@ -147,7 +145,7 @@ as_said text o = sym (then_done (read_outcome text room_of_reader) _ o)
 
 -- the call that the code makes: what it is handed for the prices and the covariance, each with its shape
 abbrev hrp_call : ℕ → List Float → Shape → List Float → Shape → Distance → hrp.HrpJob
-hrp_call n ps s cs t d = hrp_job n ps s [] Absent cs t [] false d
+hrp_call n ps s cs t d = hrp_job n ps s [] None cs t [] false d
 
 module _ (text : List ℕ) (d : Distance) where
   hrp_in_text : hrp_job_in text d
@@ -156,7 +154,7 @@ module _ (text : List ℕ) (d : Distance) where
   unfolding hrp_job_in block_in
   hrp_in_text = refl
 
-module _ (text : List ℕ) (cells : List Float) (b : Block) (d : Distance) (is_read : Read text (reading.Hrp b d) cells)
+module _ (text : List ℕ) (cells : List Float) (b : Block) (d : Distance) (is_read : Read text (Ok (jobs.Hrp b d)) cells)
     (ps cs : List Float) (s t : Shape) (ps-are : ps ≡ cells_if b.priced cells) (s-is : s ≡ shape_of b.priced b.rows b.assets)
     (cs_are : cs ≡ cells_if (not b.priced) cells) (t-is : t ≡ shape_of (not b.priced) b.rows b.assets) where
   abbrev hrp_made : hrp.HrpJob
@@ -184,7 +182,7 @@ module _ (text : List ℕ) (cells : List Float) (b : Block) (d : Distance) (is_r
 -- ---- HCAA's
 
 abbrev hcaa_call : ℕ → List Float → Shape → List Float → Shape → List ℕ → Clusters → Linkage → Distance → hcaa.HcaaJob
-hcaa_call n ps s cs t m k l d = hcaa_job n ps s [] Absent cs t [] false m (bytes "mean") confidence k [] d l
+hcaa_call n ps s cs t m k l d = hcaa_job n ps s [] None cs t [] false m (bytes "mean") confidence k [] d l
 
 module _ (text : List ℕ) (l : Linkage) (d : Distance) where
   hcaa_in_text : hcaa_job_in text l d
@@ -193,7 +191,7 @@ module _ (text : List ℕ) (l : Linkage) (d : Distance) where
   unfolding hcaa_job_in block_in
   hcaa_in_text = refl
 
-module _ (text : List ℕ) (cells : List Float) (b : Block) (l : Linkage) (d : Distance) (is_read : Read text (reading.Hcaa b l d) cells)
+module _ (text : List ℕ) (cells : List Float) (b : Block) (l : Linkage) (d : Distance) (is_read : Read text (Ok (jobs.Hcaa b l d)) cells)
     (ps cs : List Float) (s t : Shape) (ps-are : ps ≡ cells_if b.priced cells) (s-is : s ≡ shape_of b.priced b.rows b.assets)
     (cs_are : cs ≡ cells_if (not b.priced) cells) (t-is : t ≡ shape_of (not b.priced) b.rows b.assets)
     (m : List ℕ) (k : Clusters) (m-is : m ≡ metric_in text) (k-is : k ≡ clusters_in text) where

@@ -7,7 +7,6 @@ use native.Mathlib.Omega.{arith}
 use lib.ListN.{length}
 use lib.Ieee.{Float}
 use Rattle.refusal.specs.Table.{first}
-use Rattle.refusal.specs.declared.Outcome.TheVariants.{Done}
 use Rattle.linkage.specs.declared.Distance.{Distance}
 use Rattle.linkage.specs.declared.Linkage.{Linkage}
 use Rattle.tree.specs.Tree.{left, right}
@@ -20,28 +19,29 @@ use Rattle.ceilings.specs.Figures.{are_unlike, figures_in, figures_lines}
 use Rattle.ceilings.specs.Meaning.{Capped}
 use Rattle.ceilings.proofs.Weighed.{figures_lines_done, figures_capped, figures_length, figures_total}
 use Rattle.reading.specs.Reading.{assets, ceiled, ceilings_in, block_in, job_in}
-use Rattle.reading.specs.declared.Reading.TheVariants as reading
 use Rattle.reading.proofs.Accepted.{ceilings_length, ceilings_like}
 use Rattle.metrics.specs.declared.Metric.TheVariants.{EqualWeighting}
 use Rattle.equal.specs.Equal.{EqualShares}
 use Rattle.hierarchy.specs.Hierarchy as hierarchy
 use Rattle.hcaa.specs.Hcaa as hcaa
-use Rattle.listing.specs.declared.Listed.{Listed}
 use Rattle.job.specs.declared.Form.{Form}
 use Rattle.job.specs.declared.Form.TheVariants as form
 use Rattle.job.specs.Inner.{Told}
 use Rattle.job.specs.Job.{clusters_in, hcaa_job_in, allocator_says, job_weights, job_rows, figures_of, job_outcome, printed_of, TextListed, subtotal_at, TextSheeted}
 use Rattle.job.proofs.Built.{Built, built, hcaa_says, hcaa_weights, equal_text}
 use Rattle.job.proofs.Ends.{allocator_done, figures_done}
+use Rattle.std.specs.Prelude.{Ok}
+use Rattle.listing.specs.Outcomes.{Listed}
+use Rattle.reading.specs.declared.Job.TheVariants as jobs
 
-module _ (text : List ℕ) (f : Form) (room : ℕ) (done : job_outcome text f room ≡ Done) where
+module _ (text : List ℕ) (f : Form) (room : ℕ) (done : job_outcome text f room ≡ Ok tt) where
   abbrev ws : List Float
   ws = job_weights text (job_in text)
 
   whole_text : Built text (job_in text)
   whole_text = built text (allocator_done text f room done)
 
-  passed : first (figures_lines ws (ceilings_in text)) ≡ Done
+  passed : first (figures_lines ws (ceilings_in text)) ≡ Ok tt
   passed = figures_done text f room done
 
   shares : Serves ws (millionths_in ws)
@@ -58,7 +58,7 @@ module _ (text : List ℕ) (f : Form) (room : ℕ) (done : job_outcome text f ro
 
   -- ---- equal shares
 
-  equally : (l : Linkage) (d : Distance) → job_in text ≡ reading.Hcaa (block_in text) l d → hcaa.used_metric (hcaa_job_in text l d) ≡ EqualWeighting
+  equally : (l : Linkage) (d : Distance) → job_in text ≡ Ok (jobs.Hcaa (block_in text) l d) → hcaa.used_metric (hcaa_job_in text l d) ≡ EqualWeighting
       → EqualShares (assets text) (hcaa.cluster_count (clusters_in text) (assets text)) (hierarchy.hcaa_rows d l (hcaa.hcaa_covariance (hcaa_job_in text l d)) (assets text)) ws
   unfolding block_in
   equally l d is equal =

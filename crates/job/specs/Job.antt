@@ -1,21 +1,16 @@
 -- Document 01, "Millionths and the job program": from a job text to its listing. "Order: 9, 15, 8, 7, the allocator's, 13"; document 02, request 3: "18, after 13";
 -- request 8: prices "in place of the covariance"; request 13: from a job text to its sheet; request 10: "20, after 18". Definitions only.
-use Rattle.std.specs.Prelude.{ℕ, ◌+◌, ◌-◌, ◌*◌, ◌<◌, ◌≡◌, Bool, true, false, not, List, [], ◌∷◌, ltb, length, Float}
+use Rattle.std.specs.Prelude.{ℕ, ◌+◌, ◌-◌, ◌*◌, ◌<◌, ◌≡◌, Bool, true, false, not, List, [], ◌∷◌, ltb, length, Float, Some, Ok, None, Err}
 use Rattle.std.specs.Float.{binary64}
 use Rattle.std.specs.Float.Ieee.{of_bits}
-use Rattle.refusal.specs.Table.{Line, first, and_then}
+use Rattle.refusal.specs.Table.{Line, first, and_then, Outcome}
 use Rattle.refusal.specs.declared.Refusal.TheVariants.{OverLimit, ShortBuffer}
-use Rattle.refusal.specs.declared.Outcome.{Outcome}
-use Rattle.refusal.specs.declared.Outcome.TheVariants as outcome
 use Rattle.lent.specs.Lent.{shape_of}
-use Rattle.lent.specs.declared.Shape.TheVariants.{Absent}
 use Rattle.text.specs.Bytes.{bytes}
 use Rattle.heading.specs.Heading.{field, clusters_of}
 use Rattle.heading.specs.declared.Asked.{Asked}
 use Rattle.heading.specs.declared.Asked.TheVariants as asked
 use Rattle.reading.specs.Reading.{most_bytes, text_lines, block_in, job_in, line, priced, ceiled, rows_in, assets, cells_in, name_of, ceilings_in, ReadRoom}
-use Rattle.reading.specs.declared.Reading.{Reading}
-use Rattle.reading.specs.declared.Reading.TheVariants as reading
 use Rattle.linkage.specs.declared.Distance.{Distance}
 use Rattle.linkage.specs.declared.Linkage.{Linkage}
 use Rattle.clusters.specs.Shares.{weights_in}
@@ -23,8 +18,6 @@ use Rattle.parity.specs.Parity as parity
 use Rattle.hrp.specs.Hrp as hrp
 use Rattle.hierarchy.specs.Hierarchy as hierarchy
 use Rattle.hcaa.specs.Hcaa as hcaa
-use Rattle.hcaa.specs.declared.Clusters.{Clusters}
-use Rattle.hcaa.specs.declared.Clusters.TheVariants as clusters
 use Rattle.metrics.specs.declared.Metric.TheVariants.{EqualWeighting}
 use Rattle.equal.specs.Equal.{EqualShares}
 use Rattle.millionths.specs.Millionths.{millionths_in}
@@ -34,17 +27,20 @@ use Rattle.ceilings.specs.Meaning.{Capped}
 use Rattle.tree.specs.Tree.{left, right}
 use Rattle.branches.specs.Branch.{members_of, subtotal}
 use Rattle.listing.specs.Listing.{listing, least_listing, ListingMade}
-use Rattle.listing.specs.declared.Listed.{Listed}
 use Rattle.groups.specs.Groups.{group_sheet, least_sheet}
 use Rattle.job.specs.declared.Form.{Form}
 use Rattle.job.specs.declared.Form.TheVariants as form
+use Rattle.hcaa.specs.Outcomes.{Clusters}
+use Rattle.listing.specs.Outcomes.{Listed}
+use Rattle.reading.specs.Outcomes.{Reading}
+use Rattle.reading.specs.declared.Job.TheVariants as jobs
 
 -- ---- the allocator's call: the cells of the text, as prices or as a covariance, and nothing else
 
 abbrev pub clusters_as : Asked → Clusters
-clusters_as (asked.Count k) = clusters.Count k
-clusters_as asked.All = clusters.All
-clusters_as asked.Malformed = clusters.All
+clusters_as (asked.Count k) = Some k
+clusters_as asked.All = None
+clusters_as asked.Malformed = None
 
 -- the cells where they are given as this, else none
 unfoldable pub cells_if : Bool → List Float → List Float
@@ -59,7 +55,7 @@ hrp_job_in text d = record {
   prices = cells_if (priced text) (cells_in text);
   prices_shape = shape_of (priced text) (rows_in text) (assets text);
   returns = [];
-  returns_shape = Absent;
+  returns_shape = None;
   covariance = cells_if (not (priced text)) (cells_in text);
   covariance_shape = shape_of (not (priced text)) (rows_in text) (assets text);
   resample_by = [];
@@ -85,7 +81,7 @@ hcaa_job_in text l d = record {
   prices = cells_if (priced text) (cells_in text);
   prices_shape = shape_of (priced text) (rows_in text) (assets text);
   returns = [];
-  returns_shape = Absent;
+  returns_shape = None;
   covariance = cells_if (not (priced text)) (cells_in text);
   covariance_shape = shape_of (not (priced text)) (rows_in text) (assets text);
   expected = [];
@@ -113,29 +109,29 @@ room_of_hcaa = record { rows = 126; order = 64; weights = 64; scratch = 8192 }
 
 unfoldable pub allocator_says : List ℕ → Reading → Outcome
 unfolding hrp_job_in hcaa_job_in
-allocator_says text (reading.Refused r) = outcome.Refused r
-allocator_says text (reading.Hrp b d) = hrp.hrp_outcome (hrp_job_in text d) room_of_hrp
-allocator_says text (reading.Hcaa b l d) = hcaa.hcaa_outcome (hcaa_job_in text l d) room_of_hcaa
+allocator_says text (Err r) = Err r
+allocator_says text (Ok (jobs.Hrp b d)) = hrp.hrp_outcome (hrp_job_in text d) room_of_hrp
+allocator_says text (Ok (jobs.Hcaa b l d)) = hcaa.hcaa_outcome (hcaa_job_in text l d) room_of_hcaa
 
 unfoldable pub job_weights : List ℕ → Reading → List Float
 unfolding hrp_job_in hcaa_job_in
-job_weights text (reading.Refused r) = []
-job_weights text (reading.Hrp b d) = weights_in (parity.hrp_shares d (hrp.hrp_covariance (hrp_job_in text d)) b.assets)
-job_weights text (reading.Hcaa b l d) =
+job_weights text (Err r) = []
+job_weights text (Ok (jobs.Hrp b d)) = weights_in (parity.hrp_shares d (hrp.hrp_covariance (hrp_job_in text d)) b.assets)
+job_weights text (Ok (jobs.Hcaa b l d)) =
     weights_in (hierarchy.hcaa_shares (hcaa.used_rule (hcaa_job_in text l d)) d l (hcaa.hcaa_covariance (hcaa_job_in text l d)) b.assets)
 
 unfoldable pub job_order : List ℕ → Reading → List ℕ
 unfolding hrp_job_in hcaa_job_in
-job_order text (reading.Refused r) = []
-job_order text (reading.Hrp b d) = parity.hrp_order d (hrp.hrp_covariance (hrp_job_in text d)) b.assets
-job_order text (reading.Hcaa b l d) = hierarchy.hcaa_order d l (hcaa.hcaa_covariance (hcaa_job_in text l d)) b.assets
+job_order text (Err r) = []
+job_order text (Ok (jobs.Hrp b d)) = parity.hrp_order d (hrp.hrp_covariance (hrp_job_in text d)) b.assets
+job_order text (Ok (jobs.Hcaa b l d)) = hierarchy.hcaa_order d l (hcaa.hcaa_covariance (hcaa_job_in text l d)) b.assets
 
 -- the rows of its tree
 unfoldable pub job_rows : List ℕ → Reading → List ℕ
 unfolding hrp_job_in hcaa_job_in
-job_rows text (reading.Refused r) = []
-job_rows text (reading.Hrp b d) = parity.hrp_rows d (hrp.hrp_covariance (hrp_job_in text d)) b.assets
-job_rows text (reading.Hcaa b l d) = hierarchy.hcaa_rows d l (hcaa.hcaa_covariance (hcaa_job_in text l d)) b.assets
+job_rows text (Err r) = []
+job_rows text (Ok (jobs.Hrp b d)) = parity.hrp_rows d (hrp.hrp_covariance (hrp_job_in text d)) b.assets
+job_rows text (Ok (jobs.Hcaa b l d)) = hierarchy.hcaa_rows d l (hcaa.hcaa_covariance (hcaa_job_in text l d)) b.assets
 
 -- its figures in millionths, under the text's ceilings where it has any
 unfoldable pub figures_of : List ℕ → List ℕ
@@ -183,11 +179,11 @@ job_outcome text f room =
 pub record TextListed (text : List ℕ) (room : ℕ) (r : Listed) (out : List ℕ) : Type 0 where
   pub made : ListingMade (job_outcome text form.Listing room) (listing_of text) room r out
   -- document 02, request 3: an accepted text has millionths that total 1,000,000, nobody's moved by more than one; it lists these where it has no ceilings
-  pub adds_up : job_outcome text form.Listing room ≡ outcome.Done → Serves (job_weights text (job_in text)) (millionths_in (job_weights text (job_in text)))
+  pub adds_up : job_outcome text form.Listing room ≡ Ok tt → Serves (job_weights text (job_in text)) (millionths_in (job_weights text (job_in text)))
   -- request 10: where it has ceilings, what it lists totals 1,000,000 too, nobody's above the ceiling, or below the smaller of that figure and the ceiling
-  pub capped : job_outcome text form.Listing room ≡ outcome.Done → ceiled text ≡ true → Capped (millionths_in (job_weights text (job_in text))) (ceilings_in text) (figures_of text)
+  pub capped : job_outcome text form.Listing room ≡ Ok tt → ceiled text ≡ true → Capped (millionths_in (job_weights text (job_in text))) (ceilings_in text) (figures_of text)
   -- demand 3, which "speaks of weights before ceilings": an accepted `hcaa` text by equal weighting lists equal shares, by the rows of its tree and its clusters
-  pub equal_shares : (l : Linkage) (d : Distance) → job_outcome text form.Listing room ≡ outcome.Done → job_in text ≡ reading.Hcaa (block_in text) l d
+  pub equal_shares : (l : Linkage) (d : Distance) → job_outcome text form.Listing room ≡ Ok tt → job_in text ≡ Ok (jobs.Hcaa (block_in text) l d)
       → hcaa.used_metric (hcaa_job_in text l d) ≡ EqualWeighting
       → EqualShares (assets text) (hcaa.cluster_count (clusters_in text) (assets text))
       (hierarchy.hcaa_rows d l (hcaa.hcaa_covariance (hcaa_job_in text l d)) (assets text)) (job_weights text (job_in text))
@@ -200,7 +196,7 @@ subtotal_at text v = subtotal (figures_of text) (members_of (job_rows text (job_
 pub record TextSheeted (text : List ℕ) (named : Bool) (room : ℕ) (r : Listed) (out : List ℕ) : Type 0 where
   pub made : ListingMade (job_outcome text (form.Sheet named) room) (sheet_of text named) room r out
   -- "each branch's subtotal is the sum of its two children's": row k's node is n + k
-  pub branches : job_outcome text (form.Sheet named) room ≡ outcome.Done → (k : ℕ) → k < assets text - 1
+  pub branches : job_outcome text (form.Sheet named) room ≡ Ok tt → (k : ℕ) → k < assets text - 1
       → subtotal_at text (assets text + k) ≡ subtotal_at text (left (job_rows text (job_in text)) k) + subtotal_at text (right (job_rows text (job_in text)) k)
   -- and so the first line's, the root's, is 1,000,000
-  pub whole : job_outcome text (form.Sheet named) room ≡ outcome.Done → subtotal_at text (2 * assets text - 2) ≡ 1000000
+  pub whole : job_outcome text (form.Sheet named) room ≡ Ok tt → subtotal_at text (2 * assets text - 2) ≡ 1000000

@@ -1,21 +1,17 @@
 // From a job text to its listing or its sheet: read, allocated, written into a lent buffer.
 #![tactic(auto)]
 
-ghost use Rattle.std.specs.Prelude.{◌≡◌, cond, ltb, length};
+ghost use Rattle.std.specs.Prelude.{◌≡◌, cond, ltb, length, Ok};
 ghost use Rattle.refusal.specs.declared.Refusal.TheVariants.{OverLimit, ShortBuffer};
-ghost use Rattle.refusal.specs.declared.Outcome.TheVariants.{Done};
 ghost use Rattle.heading.specs.Heading.{field, clusters_of};
-ghost use Rattle.reading.specs.declared.Reading.TheVariants as reading;
 ghost use Rattle.job.specs.Inner.{BlankListing, Read, block_read, Held, Placed, Allotted, Told};
 ghost use Rattle.job.specs.Job.{clusters_as, cells_if, least_for, TextListed, TextSheeted};
+ghost use Rattle.reading.specs.declared.Job.TheVariants as jobs;
 
-use hcaa::Clusters;
 use heading::Asked;
-use lent::Shape;
 use linkage::{Distance, Linkage};
-use listing::Listed;
-use reading::{Block, Reading};
-use refusal::{Outcome, Refusal};
+use reading::{Block, Job};
+use refusal::Refusal;
 
 // What is printed of a job.
 #[derive(Clone, Copy)]
@@ -27,7 +23,7 @@ pub enum Form {
 // What was said of a text, and an allocator's answer at the front of buffers for 64 assets.
 #[derive(Drop)]
 struct Allotment {
-    said: Outcome,
+    said: Result<(), Refusal>,
     rows: [usize; 126],
     order: [usize; 64],
     weights: [f64; 64],
@@ -37,13 +33,11 @@ struct Allotment {
 const CONFIDENCE: f64 = 0.05;
 
 // The cells where they are given as this, else none.
+#[tactic(auto, unfolding(crate::specs::Job::cells_if))]
 fn cells_if(given: bool, cells: &[f64]) -> &[f64]
     ensures { result.now ≡ cells_if given cells.now }
 {
-    if given {
-        return cells;
-    }
-    &cells[..0]
+    if given { cells } else { &[] }
 }
 
 // What was said of a text. Where it is accepted, the allocator's answer is printed: for the assets whose names begin at `starts`, under their ceilings where there are any.
@@ -54,7 +48,7 @@ fn finish(
     found: Allotment,
     form: Form,
     out: &mut [u8],
-) -> Listed
+) -> Result<usize, Refusal>
     requires placed { Placed text.now starts.now ceilings.now }
     requires allotted { Allotted text.now found }
     requires blank_listing { BlankListing form out.old }
@@ -62,35 +56,31 @@ fn finish(
 {
     let said = found.said;
     let weights = found.weights;
-    match said {
-        Outcome::Refused(r) => Listed::Refused(r),
-        Outcome::Done => {
-            let n = starts.len();
-            match form {
-                Form::Listing => {
-                    let order = found.order;
-                    listing::sheet(text, starts, &weights[..n], ceilings, &order[..n], out)
-                }
-                Form::Sheet { named } => {
-                    let rows = found.rows;
-                    groups::group_sheet(
-                        text,
-                        starts,
-                        &weights[..n],
-                        ceilings,
-                        &rows[..2 * (n - 1)],
-                        named,
-                        out,
-                    )
-                }
-            }
+    said?;
+    let n = starts.len();
+    match form {
+        Form::Listing => {
+            let order = found.order;
+            listing::sheet(text, starts, &weights[..n], ceilings, &order[..n], out)
+        }
+        Form::Sheet { named } => {
+            let rows = found.rows;
+            groups::group_sheet(
+                text,
+                starts,
+                &weights[..n],
+                ceilings,
+                &rows[..2 * (n - 1)],
+                named,
+                out,
+            )
         }
     }
 }
 
 // HRP's answer for a text.
 fn by_hrp(text: &[u8], cells: &[f64], block: Block, distance: Distance) -> Allotment
-    requires { Read text.now (reading.Hrp block distance) cells.now }
+    requires { Read text.now (Ok (jobs.Hrp block distance)) cells.now }
     ensures { Allotted text.now result }
 {
     let mut rows = [0usize; 126];
@@ -104,7 +94,7 @@ fn by_hrp(text: &[u8], cells: &[f64], block: Block, distance: Distance) -> Allot
         cells_if(block.priced, cells),
         lent::shape_if(block.priced, block.rows, block.assets),
         &cells[..0],
-        Shape::Absent,
+        None,
         cells_if(!block.priced, cells),
         lent::shape_if(!block.priced, block.rows, block.assets),
         &text[..0],
@@ -126,14 +116,13 @@ fn by_hrp(text: &[u8], cells: &[f64], block: Block, distance: Distance) -> Allot
 }
 
 // The clusters that the first line of an `hcaa` job asks for.
-fn clusters_in(line: &[u8]) -> Clusters
+#[tactic(auto, unfolding(crate::specs::Job::clusters_as))]
+fn clusters_in(line: &[u8]) -> Option<usize>
     ensures { result ≡ clusters_as (clusters_of (field line.now 4)) }
 {
-    let asked = heading::clusters_asked(fields::piece(line, b'\t', 4));
-    match asked {
-        Asked::Malformed => Clusters::All,
-        Asked::All => Clusters::All,
-        Asked::Count(k) => Clusters::Count(k),
+    match heading::clusters_asked(fields::piece(line, b'\t', 4)) {
+        Asked::Count(k) => Some(k),
+        _ => None,
     }
 }
 
@@ -145,7 +134,7 @@ fn by_hcaa(
     linkage: Linkage,
     distance: Distance,
 ) -> Allotment
-    requires { Read text.now (reading.Hcaa block linkage distance) cells.now }
+    requires { Read text.now (Ok (jobs.Hcaa block linkage distance)) cells.now }
     ensures { Allotted text.now result }
 {
     let line = fields::piece(text, b'\n', 0);
@@ -158,7 +147,7 @@ fn by_hcaa(
         cells_if(block.priced, cells),
         lent::shape_if(block.priced, block.rows, block.assets),
         &cells[..0],
-        Shape::Absent,
+        None,
         cells_if(!block.priced, cells),
         lent::shape_if(!block.priced, block.rows, block.assets),
         &cells[..0],
@@ -184,43 +173,42 @@ fn by_hcaa(
 }
 
 // What was read, handed to the allocator that it asks for.
-fn allocate(text: &[u8], cells: &[f64], read: Reading) -> Allotment
+fn allocate(text: &[u8], cells: &[f64], read: Result<Job, Refusal>) -> Allotment
     requires { Held text.now read cells.now }
     ensures { Allotted text.now result }
 {
     match read {
-        Reading::Refused(r) => Allotment {
-            said: Outcome::Refused(r),
+        Err(r) => Allotment {
+            said: Err(r),
             rows: [0; 126],
             order: [0; 64],
             weights: [0.0; 64],
         },
-        Reading::Hrp { block, distance } => by_hrp(text, cells, block, distance),
-        Reading::Hcaa {
-            block,
-            linkage,
-            distance,
-        } => by_hcaa(text, cells, block, linkage, distance),
+        Ok(job) => match job {
+            Job::Hrp { block, distance } => by_hrp(text, cells, block, distance),
+            Job::Hcaa {
+                block,
+                linkage,
+                distance,
+            } => by_hcaa(text, cells, block, linkage, distance),
+        },
     }
 }
 
 // What stands after the first line: nothing, where the text is refused.
-fn block_of(read: Reading) -> Block
+#[tactic(auto, unfolding(crate::specs::Inner::block_read))]
+fn block_of(read: Result<Job, Refusal>) -> Block
     ensures { result ≡ block_read read }
 {
     match read {
-        Reading::Refused(_) => Block {
+        Err(_) => Block {
             assets: 0,
             rows: 0,
             priced: false,
             ceiled: false,
         },
-        Reading::Hrp { block, distance: _ } => block,
-        Reading::Hcaa {
-            block,
-            linkage: _,
-            distance: _,
-        } => block,
+        Ok(Job::Hrp { block, .. }) => block,
+        Ok(Job::Hcaa { block, .. }) => block,
     }
 }
 
@@ -228,13 +216,11 @@ fn block_of(read: Reading) -> Block
 fn ceilings_in(block: Block) -> usize
     ensures { result ≡ cond block.ceiled block.assets 0 }
 {
-    if block.ceiled {
-        return block.assets;
-    }
-    0
+    if block.ceiled { block.assets } else { 0 }
 }
 
 // The bytes that hold everything of a form.
+#[tactic(auto, unfolding(crate::specs::Job::least_for))]
 fn least_for(form: Form) -> usize
     ensures { result ≡ least_for form }
 {
@@ -245,22 +231,24 @@ fn least_for(form: Form) -> usize
 }
 
 // Why a call is refused whose buffer is too short.
+#[tactic(auto, using(std::proofs::lemmas::Bool::Decides::nat_tests))]
 fn unlisted(bytes: usize) -> Refusal
     ensures { result ≡ cond (ltb 65536 bytes) OverLimit ShortBuffer }
 {
     if reading::MOST_BYTES < bytes {
-        return Refusal::OverLimit;
+        Refusal::OverLimit
+    } else {
+        Refusal::ShortBuffer
     }
-    Refusal::ShortBuffer
 }
 
 // What is asked of a text, at the front of out. A refused text leaves zeros: `listing::refusal_line` writes its line.
-fn text_to(text: &[u8], form: Form, out: &mut [u8]) -> Listed
+fn text_to(text: &[u8], form: Form, out: &mut [u8]) -> Result<usize, Refusal>
     ensures { Told text.now form (length out.old) result out.new }
 {
-    lent::clear_bytes_from(out, 0);
+    lent::clear(out);
     if out.len() < least_for(form) {
-        return Listed::Refused(unlisted(text.len()));
+        return Err(unlisted(text.len()));
     }
     let mut cells = [0.0; 4096];
     let mut starts = [0usize; 64];
@@ -275,14 +263,14 @@ fn text_to(text: &[u8], form: Form, out: &mut [u8]) -> Listed
 }
 
 // The listing of a job text.
-pub fn text_to_listing(text: &[u8], out: &mut [u8]) -> Listed
+pub fn text_to_listing(text: &[u8], out: &mut [u8]) -> Result<usize, Refusal>
     ensures { TextListed text.now (length out.old) result out.new }
 {
     text_to(text, Form::Listing, out)
 }
 
 // The sheet of a job text: a line for each node of its tree.
-pub fn text_to_sheet(text: &[u8], named: bool, out: &mut [u8]) -> Listed
+pub fn text_to_sheet(text: &[u8], named: bool, out: &mut [u8]) -> Result<usize, Refusal>
     ensures { TextSheeted text.now named (length out.old) result out.new }
 {
     text_to(text, Form::Sheet { named }, out)

@@ -7,7 +7,7 @@ ghost use Rattle.writing.specs.Writing.{Put};
 ghost use Rattle.keys.specs.Keys.{word_from, shortened, key_of, key_same, key_before, key_byte, key_bytes};
 
 // A name of up to 16 bytes: its first eight and its last eight as numbers in base 256, zeros past its end.
-#[derive(Clone, Copy)]
+#[derive(Clone, Copy, PartialEq, Eq, PartialOrd, Ord)]
 pub struct Key {
     pub high: usize,
     pub low: usize,
@@ -17,10 +17,7 @@ fn byte(s: &[u8], i: usize) -> usize
     ensures value { result ≡ get_or s.now i 0 }
     ensures upper_bound { result < 256 }
 {
-    if i < s.len() {
-        return s[i] as usize;
-    }
-    0
+    s.get(i).map_or(0, |b| usize::from(*b))
 }
 
 // Eight bytes from a place on as a number, the first the highest.
@@ -45,19 +42,18 @@ pub fn key_of(s: &[u8]) -> Key
     }
 }
 
+#[tactic(auto, using(std::proofs::lemmas::Bool::Decides::nat_tests), unfolding(crate::specs::Keys::key_before))]
 pub fn is_before(x: Key, y: Key) -> bool
     ensures { result ≡ key_before x y }
 {
-    if x.high == y.high {
-        return x.low < y.low;
-    }
-    x.high < y.high
+    x < y
 }
 
+#[tactic(auto, unfolding(crate::specs::Keys::key_same))]
 pub fn is_same(x: Key, y: Key) -> bool
     ensures { result ≡ key_same x y }
 {
-    refusal::both(x.high == y.high, x.low == y.low)
+    x == y
 }
 
 // A number without its last k bytes.
@@ -65,10 +61,8 @@ fn shift(w: usize, k: usize) -> usize
     ensures { result ≡ shortened k w }
 {
     let mut left = w;
-    let mut i = 0;
-    while i < k {
+    for _ in 0..k {
         left /= 256;
-        i += 1;
     }
     left
 }
@@ -88,8 +82,8 @@ fn fill(bytes: &mut [u8; 16], key: Key)
     requires { length bytes.old ≡ 16 }
     ensures { bytes.new ≡ tab 16 (key_byte key) }
 {
-    for i in 0..16 {
-        bytes[i] = byte_of(key, i);
+    for (i, b) in bytes.iter_mut().enumerate() {
+        *b = byte_of(key, i);
     }
 }
 

@@ -13,7 +13,8 @@ use lib.ListN.{length, get_or, set, take, drop, length-append, length-set, lengt
 use lib.Seq.{length-take-le, drop-cons, take-suc-set, drop-set-lt, drop-drop, append_snoc, set_split, set-append_left, take-append-le, drop-append-le, take_at, get_or-take}
 use Rattle.lent.specs.Grid.{over}
 use Rattle.lent.proofs.Laws.{either, same_or_not}
-use Rattle.refusal.specs.Table.{first}
+use Rattle.refusal.specs.Table.{first, or_else, Outcome}
+use Rattle.refusal.proofs.Tables.{done_refused}
 use Rattle.refusal.specs.declared.Refusal.TheVariants.{OverLimit}
 use Rattle.keys.specs.Keys.{key_before, key_same}
 use Rattle.keys.specs.declared.Key.{Key}
@@ -21,9 +22,9 @@ use Rattle.ledger.specs.Ledger.{opened, added, entered, position_at, positions, 
 use Rattle.ledger.specs.Inner.{key_place, insert_at, step_left}
 use Rattle.ledger.specs.declared.Position.{Position}
 use Rattle.ledger.specs.declared.Lot.{Lot}
-use Rattle.ledger.specs.declared.Entered.{Entered}
-use Rattle.ledger.specs.declared.Entered.TheVariants as answer
 use Rattle.ledger.proofs.Storing.{length_positions, position_there}
+use Rattle.std.specs.Prelude.{Ok}
+use Rattle.ledger.specs.Outcomes.{Entered}
 
 -- ---- the first n positions
 
@@ -163,16 +164,13 @@ module _ (l m old : List Position) (i k : ℕ) (hold e : Position) (made : m ≡
 
 -- ---- one line of a table of refusals, over the answer and the positions left
 
+pub passes : (b : Bool) (o : Outcome) → o ≡ or_else b OverLimit (Ok tt) → o ≡ Ok tt → b ≡ false
+unfolding or_else
+passes true o e d = absurd (done_refused OverLimit (sym d ∙ e))
+passes false o e d = refl
+
 module _ (b : Bool) (l old : List Position) where
-  pub refused_answer : b ≡ true → answer.Refused OverLimit ≡ entered_as (first ((b, OverLimit) ∷ [])) l
-  unfolding entered_as first
-  refused_answer e = rw e
-
-  pub refused_left : b ≡ true → old ≡ step_left (first ((b, OverLimit) ∷ [])) l old
-  unfolding step_left first
-  refused_left e = rw e
-
-  pub done_answer : (n : ℕ) → b ≡ false → length l ≡ n → answer.Names n ≡ entered_as (first ((b, OverLimit) ∷ [])) l
+  pub done_answer : (n : ℕ) → b ≡ false → length l ≡ n → Ok n ≡ entered_as (first ((b, OverLimit) ∷ [])) l
   unfolding entered_as first
   done_answer n e q = rw (e, q)
 

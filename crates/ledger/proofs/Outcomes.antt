@@ -1,31 +1,29 @@
 -- What a call of the ledger answers and leaves, from its parts. Assumes nothing.
 use Prim.Native.Nat.{ℕ, ◌-◌, ◌*◌, ◌<◌, ◌≤◌}
 use mathlib.Core.Path.{◌≡◌, refl, sym, ap, ◌∙◌}
-use mathlib.Core.Bool.{Bool, true, false, not, ◌&&◌}
+use mathlib.Core.Bool.{Bool, true, false, not}
 use mathlib.Core.List.{List, [], ◌∷◌, ◌++◌}
 use native.Mathlib.Omega.{arith}
-use borrow.Author.Tests.{ltb-true, ltb-false, le-leb, lt-leb, eqb-true}
+use borrow.Author.Tests.{ltb-false, le-leb, lt-leb, eqb-true}
 use lib.Dec.{ltb, eqb}
 use lib.ListN.{length, take, drop}
 use lib.Seq.{take_at}
 use Rattle.lent.specs.Grid.{noughts, over}
 use Rattle.lent.specs.Lent.{laid}
-use Rattle.lent.proofs.Laws.{and_left, and_right}
-use Rattle.refusal.specs.Table.{first}
+use Rattle.refusal.specs.Table.{first, Outcome}
 use Rattle.refusal.proofs.Tables.{none, first_done, first_refused, done_refused, parts_done}
 use Rattle.refusal.specs.declared.Refusal.{Refusal}
-use Rattle.refusal.specs.declared.Outcome.{Outcome}
-use Rattle.refusal.specs.declared.Outcome.TheVariants.{Done, Refused}
-use Rattle.ledger.specs.Ledger.{entered, most_names, table_cells, position_at, positions, blank, position_in, first_ones, table_of, entered_lines, table_lines, enter_outcome, entered_as, cleared_past, LotEntered}
+use Rattle.ledger.specs.Ledger.{entered, positions, first_ones, table_of, entered_lines, table_lines, enter_outcome, entered_as, cleared_past, LotEntered}
 use Rattle.ledger.specs.Inner.{step_left, StepLeft, names_after}
 use Rattle.ledger.specs.declared.Position.{Position}
 use Rattle.ledger.specs.declared.Lot.{Lot}
-use Rattle.ledger.specs.declared.Entered.{Entered}
-use Rattle.ledger.specs.declared.Entered.TheVariants as answer
 use Rattle.ledger.proofs.Tables.{table_over, table_length}
+use Rattle.std.specs.Prelude.{Ok, Err}
+use Rattle.std.specs.Result.{result_unwrap_or}
+use Rattle.ledger.specs.Outcomes.{Entered}
 
 -- a table that is judged done has room for 256 positions, and no more names
-pub judged_done : (cells n : ℕ) → first (table_lines cells n) ≡ Done → (cells ≡ 1792) × (n ≤ 256)
+pub judged_done : (cells n : ℕ) → first (table_lines cells n) ≡ Ok tt → (cells ≡ 1792) × (n ≤ 256)
 unfolding table_lines
 judged_done cells n e =
     let a = none ((ltb 256 n, _) ∷ (not (eqb cells 1792), _) ∷ []) e in
@@ -37,18 +35,18 @@ judged_done cells n e =
 
 module _ (t : List ℕ) (n : ℕ) (h : Lot) (judged : Outcome) (is : judged ≡ first (table_lines (length t) n)) where
   -- the call's outcome is the step's where the table is judged done, and else what it is judged
-  outcome_done : judged ≡ Done → enter_outcome t n h ≡ first (entered_lines (first_ones n t) h)
+  outcome_done : judged ≡ Ok tt → enter_outcome t n h ≡ first (entered_lines (first_ones n t) h)
   unfolding enter_outcome
   outcome_done e = first_done (table_lines (length t) n) (entered_lines (first_ones n t) h) (sym is ∙ e)
 
-  outcome_refused : (r : Refusal) → judged ≡ Refused r → enter_outcome t n h ≡ Refused r
+  outcome_refused : (r : Refusal) → judged ≡ Err r → enter_outcome t n h ≡ Err r
   unfolding enter_outcome
   outcome_refused r e = first_refused (table_lines (length t) n) (entered_lines (first_ones n t) h) r (sym is ∙ e)
 
-  pub judged_fits : judged ≡ Done → (length t ≡ 1792) × (n ≤ 256)
+  pub judged_fits : judged ≡ Ok tt → (length t ≡ 1792) × (n ≤ 256)
   judged_fits e = judged_done (length t) n (sym is ∙ e)
 
-  pub step_taken : (r : Entered) (t' : List ℕ) → judged ≡ Done → length t' ≡ length t
+  pub step_taken : (r : Entered) (t' : List ℕ) → judged ≡ Ok tt → length t' ≡ length t
       → r ≡ entered_as (first (entered_lines (first_ones n t) h)) (entered (first_ones n t) h)
       → positions t' ≡ step_left (first (entered_lines (first_ones n t) h)) (entered (first_ones n t) h) (positions t)
       → (r ≡ entered_as (enter_outcome t n h) (entered (first_ones n t) h)) × StepLeft (enter_outcome t n h) (entered (first_ones n t) h) t t'
@@ -61,8 +59,8 @@ module _ (t : List ℕ) (n : ℕ) (h : Lot) (judged : Outcome) (is : judged ≡ 
         record { done = λ d. table_over t t' l long (same ∙ long) (left ∙ ap (λ (z : Outcome). step_left z l (positions t)) (sym o ∙ d)); same = same },
       )
 
-  pub step_refused : (x : Refusal) → judged ≡ Refused x
-      → (answer.Refused x ≡ entered_as (enter_outcome t n h) (entered (first_ones n t) h)) × StepLeft (enter_outcome t n h) (entered (first_ones n t) h) t t
+  pub step_refused : (x : Refusal) → judged ≡ Err x
+      → (Err x ≡ entered_as (enter_outcome t n h) (entered (first_ones n t) h)) × StepLeft (enter_outcome t n h) (entered (first_ones n t) h) t t
   unfolding entered_as
   step_refused x e =
       let o = outcome_refused x e in (
@@ -72,18 +70,18 @@ module _ (t : List ℕ) (n : ℕ) (h : Lot) (judged : Outcome) (is : judged ≡ 
 
 -- the answer says which outcome it was
 abbrev answer_number_lem : Entered → ℕ
-answer_number_lem (answer.Names n) = 0
-answer_number_lem (answer.Refused r) = 1
+answer_number_lem (Ok n) = 0
+answer_number_lem (Err r) = 1
 
-refused_outcome : (o : Outcome) (l : List Position) (x : Refusal) → answer.Refused x ≡ entered_as o l → o ≡ Refused x
+refused_outcome : (o : Outcome) (l : List Position) (x : Refusal) → Err x ≡ entered_as o l → o ≡ Err x
 unfolding entered_as
-refused_outcome Done l x e = absurd (let z : ◌≡◌ {A = ℕ} 1 0 = ap answer_number_lem e in omega arith)
-refused_outcome (Refused r) l x e = cc
+refused_outcome (Ok _) l x e = absurd (let z : ◌≡◌ {A = ℕ} 1 0 = ap answer_number_lem e in omega arith)
+refused_outcome (Err r) l x e = cc
 
-done_outcome : (o : Outcome) (l : List Position) (k : ℕ) → answer.Names k ≡ entered_as o l → o ≡ Done
+done_outcome : (o : Outcome) (l : List Position) (k : ℕ) → Ok k ≡ entered_as o l → o ≡ Ok tt
 unfolding entered_as
-done_outcome Done l k e = refl
-done_outcome (Refused r) l k e = absurd (let z : ◌≡◌ {A = ℕ} 0 1 = ap answer_number_lem e in omega arith)
+done_outcome (Ok _) l k e = refl
+done_outcome (Err r) l k e = absurd (let z : ◌≡◌ {A = ℕ} 0 1 = ap answer_number_lem e in omega arith)
 
 -- ---- what stands past the names is cleared
 
@@ -96,7 +94,7 @@ unfolding cleared_past
 past_many n t h = rw (lt-leb n 256 h)
 
 -- a front that is as long as the names' positions is kept, and zeros stand after it
-pub past_laid : (l : List Position) (t t' : List ℕ) → length l ≤ 256 → take (length l * 7) t ≡ table_of l → t' ≡ cleared_past (length l) t → t' ≡ laid 0 Done (length t) (table_of l)
+pub past_laid : (l : List Position) (t t' : List ℕ) → length l ≤ 256 → take (length l * 7) t ≡ table_of l → t' ≡ cleared_past (length l) t → t' ≡ laid 0 (Ok tt) (length t) (table_of l)
 unfolding cleared_past laid
 past_laid l t t' h e q = let f = rw (le-leb (length l) 256 h) at q in f ∙ rw (e, ← table_length l)
 
@@ -105,7 +103,12 @@ pub past_none : (t t' : List ℕ) → t' ≡ cleared_past 0 t → t' ≡ noughts
 unfolding cleared_past
 past_none t t' q = q ∙ (let z : length t - 0 * 7 ≡ length t = omega arith in ap noughts z)
 
-done_few : (t : List ℕ) (n : ℕ) (h : Lot) → enter_outcome t n h ≡ Done → length (entered (first_ones n t) h) ≤ 256
+-- how many names an answer tells of, as the code has it
+pub names_told : (r : Entered) → result_unwrap_or r 0 ≡ names_after r
+names_told (Ok n) = refl
+names_told (Err r) = refl
+
+done_few : (t : List ℕ) (n : ℕ) (h : Lot) → enter_outcome t n h ≡ Ok tt → length (entered (first_ones n t) h) ≤ 256
 unfolding enter_outcome entered_lines
 done_few t n h e = ltb-false 256 (length (entered (first_ones n t) h)) (none (entered_lines (first_ones n t) h) (parts_done (table_lines (length t) n) (entered_lines (first_ones n t) h) e).1).0
 
@@ -113,29 +116,15 @@ module _ (t : List ℕ) (n : ℕ) (h : Lot) (r : Entered) (t' u : List ℕ) (tol
     (left : StepLeft (enter_outcome t n h) (entered (first_ones n t) h) t t') (k : ℕ) (kept : k ≡ names_after r) (past : u ≡ cleared_past k t') where
   entered_by : (o : Outcome) → enter_outcome t n h ≡ o → u ≡ laid 0 o (length t) (table_of (entered (first_ones n t) h))
   unfolding entered_as laid over
-  entered_by Done e =
+  entered_by (Ok _) e =
       let l = entered (first_ones n t) h in
       let q : k ≡ length l = kept ∙ ap names_after (told ∙ ap (λ (z : Outcome). entered_as z l) e) in
       let w : take (length l * 7) t' ≡ table_of l = ap (take (length l * 7)) (left.done e) ∙ take_at (table_of l) (drop (length (table_of l)) t) (length l * 7) (table_length l) in
-      past_laid l t' u (done_few t n h e) w (past ∙ ap (λ (z : ℕ). cleared_past z t') q) ∙ ap (λ (z : ℕ). laid 0 Done z (table_of l)) left.same
-  entered_by (Refused x) e =
+      past_laid l t' u (done_few t n h e) w (past ∙ ap (λ (z : ℕ). cleared_past z t') q) ∙ ap (λ (z : ℕ). laid 0 (Ok tt) z (table_of l)) left.same
+  entered_by (Err x) e =
       let l = entered (first_ones n t) h in
       let q : k ≡ 0 = kept ∙ ap names_after (told ∙ ap (λ (z : Outcome). entered_as z l) e) in
       past_none t' u (past ∙ ap (λ (z : ℕ). cleared_past z t') q) ∙ ap noughts left.same
 
   pub lot_entered : LotEntered t n h r u
   lot_entered = record { answer = told; table_is = entered_by (enter_outcome t n h) refl }
-
--- ---- a position read by its number
-
-module _ (t : List ℕ) (i : ℕ) (b : Bool) (e : b ≡ (eqb (length t) table_cells && ltb i most_names)) where
-  pub in_table : b ≡ true → (length t ≡ 1792) × (i < 256)
-  in_table h = let f = sym e ∙ h in (eqb-true (length t) table_cells (and_left (eqb (length t) table_cells) (ltb i most_names) f), ltb-true i most_names (and_right (eqb (length t) table_cells) (ltb i most_names) f))
-
-  pub position_is : (p : Position) → b ≡ true → p ≡ position_at t i → p ≡ position_in t i
-  unfolding position_in
-  position_is p h q = rw (sym e ∙ h) q
-
-  pub position_none : b ≡ false → blank ≡ position_in t i
-  unfolding position_in
-  position_none h = rw (sym e ∙ h)

@@ -1,18 +1,14 @@
 -- Document 02, request 5: what is kept of each asset name over many jobs, and how a holding is entered. Definitions only.
-use Rattle.std.specs.Prelude.{ℕ, ◌+◌, ◌-◌, ◌*◌, min, max, ◌≡◌, Bool, false, not, cond, ◌&&◌, ◌||◌, List, [], ◌∷◌, ◌++◌, leb, ltb, eqb, length, get_or, take}
+use Rattle.std.specs.Prelude.{ℕ, ◌+◌, ◌-◌, ◌*◌, min, max, ◌≡◌, Bool, false, not, cond, ◌&&◌, ◌||◌, List, [], ◌∷◌, ◌++◌, leb, ltb, eqb, length, get_or, take, Ok, Err}
 use Rattle.lent.specs.Grid.{tab, noughts}
 use Rattle.lent.specs.Lent.{laid}
-use Rattle.refusal.specs.Table.{Line, first}
+use Rattle.refusal.specs.Table.{Line, first, Outcome}
 use Rattle.refusal.specs.Telling.{Telling, accepts, refuses}
 use Rattle.refusal.specs.declared.Refusal.TheVariants.{OverLimit, SliceLength}
-use Rattle.refusal.specs.declared.Outcome.{Outcome}
-use Rattle.refusal.specs.declared.Outcome.TheVariants.{Done}
-use Rattle.refusal.specs.declared.Outcome.TheVariants as outcome
 use Rattle.keys.specs.Keys.{key_before, key_same}
 use Rattle.ledger.specs.declared.Position.{Position}
 use Rattle.ledger.specs.declared.Lot.{Lot}
-use Rattle.ledger.specs.declared.Entered.{Entered}
-use Rattle.ledger.specs.declared.Entered.TheVariants.{Names, Refused}
+use Rattle.ledger.specs.Outcomes.{Entered}
 
 -- ---- a position for each name, in order
 
@@ -123,13 +119,13 @@ enter_outcome t n h = first (table_lines (length t) n ++ entered_lines (first_on
 
 -- what the call returns: how many names there are now, or the refusal
 unfoldable pub entered_as : Outcome → List Position → Entered
-entered_as Done l = Names (length l)
-entered_as (outcome.Refused r) l = Refused r
+entered_as (Ok _) l = Ok (length l)
+entered_as (Err r) l = Err r
 
 -- what the answer tells: 0 and how many names, or the refusal's number
 abbrev pub entered_tells : Entered → Telling ℕ
-entered_tells (Names n) = accepts n
-entered_tells (Refused r) = refuses r
+entered_tells (Ok n) = accepts n
+entered_tells (Err r) = refuses r
 
 -- a table of n names without what stands past them; as it was where n is more than a table has
 unfoldable pub cleared_past : ℕ → List ℕ → List ℕ

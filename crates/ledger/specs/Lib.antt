@@ -1,3 +1,4 @@
+pub mod Outcomes
 pub mod Ledger
 pub mod Inner
 pub mod Meaning

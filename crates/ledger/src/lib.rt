@@ -7,10 +7,10 @@ ghost use Rattle.refusal.specs.declared.Refusal.TheVariants.{OverLimit};
 ghost use Rattle.lent.specs.Grid.{over};
 ghost use Rattle.keys.specs.Keys.{key_same};
 ghost use Rattle.ledger.specs.Ledger.{opened, jobs_after, added, entered, position_at, position_in, positions, first_ones, beyond, entered_lines, table_lines, enter_outcome, entered_as, cleared_past, LotEntered};
-ghost use Rattle.ledger.specs.Inner.{key_place, insert_at, step_left, StepLeft, names_after};
+ghost use Rattle.ledger.specs.Inner.{key_place, insert_at, step_left, StepLeft};
 
 use keys::Key;
-use refusal::{Outcome, Refusal};
+use refusal::Refusal;
 
 pub const MOST_NAMES: usize = 256;
 
@@ -39,13 +39,6 @@ pub struct Lot {
     pub job: usize,
 }
 
-// How many names there are now, or the refusal.
-#[derive(Clone, Copy)]
-pub enum Entered {
-    Names(usize),
-    Refused(Refusal),
-}
-
 // Position i of the table: seven numbers.
 fn position_at(table: &[usize], i: usize) -> Position
     requires { (length table.now ≡ 1792) × (i < 256) }
@@ -66,10 +59,11 @@ fn position_at(table: &[usize], i: usize) -> Position
 }
 
 // Position i, where the table is one and has it; else a blank one.
+#[tactic(auto, unfolding(crate::specs::Ledger::position_in))]
 pub fn position_in(table: &[usize], i: usize) -> Position
     ensures { result ≡ position_in table.now i }
 {
-    if refusal::both(table.len() == TABLE_CELLS, i < MOST_NAMES) {
+    if table.len() == TABLE_CELLS && i < MOST_NAMES {
         return position_at(table, i);
     }
     Position {
@@ -102,15 +96,12 @@ fn place_of(table: &[usize], n: usize, name: Key) -> usize
     ensures value { result ≡ key_place (take n (positions table.now)) name }
     ensures upper_bound { result ≤ n }
 {
-    let mut i = 0;
-    while i < n {
-        let p = position_at(table, i);
-        if !keys::is_before(p.name, name) {
+    for i in 0..n {
+        if !keys::is_before(position_at(table, i).name, name) {
             return i;
         }
-        i += 1;
     }
-    i
+    n
 }
 
 // Whether the position at that place, if it is one of the n, is the name's.
@@ -118,11 +109,7 @@ fn is_there(table: &[usize], n: usize, at: usize, name: Key) -> bool
     requires { (length table.now ≡ 1792) × (n ≤ 256) }
     ensures { result ≡ (ltb at n && key_same (position_at table.now at).name name) }
 {
-    if at < n {
-        let p = position_at(table, at);
-        return keys::is_same(p.name, name);
-    }
-    false
+    at < n && keys::is_same(position_at(table, at).name, name)
 }
 
 // The positions from a place on go one place up, and p stands there.
@@ -131,28 +118,15 @@ fn insert(table: &mut [usize], at: usize, n: usize, p: Position)
     ensures { positions table.new ≡ over (insert_at at p (take n (positions table.old))) (positions table.old) }
 {
     let mut hold = p;
-    let mut i = at;
-    while i < n {
+    for i in at..n {
         let next = position_at(table, i);
         put_position(table, i, hold);
         hold = next;
-        i += 1;
     }
     put_position(table, n, hold);
 }
 
-fn lesser(x: usize, y: usize) -> usize
-    ensures { result ≡ min x y }
-{
-    if x <= y { x } else { y }
-}
-
-fn greater(x: usize, y: usize) -> usize
-    ensures { result ≡ max x y }
-{
-    if x <= y { y } else { x }
-}
-
+#[tactic(auto, unfolding(crate::specs::Ledger::opened))]
 fn opening(h: Lot) -> Position
     ensures { result ≡ opened h }
 {
@@ -168,13 +142,11 @@ fn opening(h: Lot) -> Position
 }
 
 // A number is past what can be added to.
+#[tactic(auto, unfolding(crate::specs::Ledger::beyond))]
 fn is_beyond(p: Position, h: Lot) -> bool
     ensures { result ≡ beyond p h }
 {
-    refusal::either(
-        MOST_ADDED < p.total,
-        refusal::either(MOST_ADDED < h.millionths, MOST_ADDED < p.jobs),
-    )
+    MOST_ADDED < p.total || MOST_ADDED < h.millionths || MOST_ADDED < p.jobs
 }
 
 // A name counts once in a job, however often it is met there.
@@ -197,41 +169,39 @@ fn join(p: Position, h: Lot) -> Position
         name,
         jobs: jobs_after(p, h),
         last: h.job,
-        smallest: lesser(p.smallest, h.millionths),
-        largest: greater(p.largest, h.millionths),
+        smallest: p.smallest.min(h.millionths),
+        largest: p.largest.max(h.millionths),
         total: p.total + h.millionths,
     }
 }
 
 // A name that is not there yet is put in at its place, if there is room for it.
-fn add(table: &mut [usize], n: usize, at: usize, h: Lot) -> Entered
+#[tactic(auto, unfolding(crate::specs::Ledger::entered_as, crate::specs::Inner::step_left, refusal::specs::Table::first, refusal::specs::Table::or_else))]
+fn add(table: &mut [usize], n: usize, at: usize, h: Lot) -> Result<usize, Refusal>
     requires { (length table.old ≡ 1792) × (at ≤ n) × (n ≤ 256) }
     ensures value { result ≡ entered_as (first ((eqb n 256, OverLimit) ∷ [])) (insert_at at (opened h) (take n (positions table.old))) }
     ensures table_after { positions table.new ≡ step_left (first ((eqb n 256, OverLimit) ∷ [])) (insert_at at (opened h) (take n (positions table.old))) (positions table.old) }
 {
-    if n == MOST_NAMES {
-        return Entered::Refused(Refusal::OverLimit);
-    }
+    refusal::refuse(n == MOST_NAMES, Refusal::OverLimit)?;
     insert(table, at, n, opening(h));
-    Entered::Names(n + 1)
+    Ok(n + 1)
 }
 
 // A name that is there: the holding joins its position, if the numbers can be added.
-fn update(table: &mut [usize], n: usize, at: usize, h: Lot) -> Entered
+#[tactic(auto, unfolding(crate::specs::Ledger::entered_as, crate::specs::Inner::step_left, refusal::specs::Table::first, refusal::specs::Table::or_else))]
+fn update(table: &mut [usize], n: usize, at: usize, h: Lot) -> Result<usize, Refusal>
     requires { (length table.old ≡ 1792) × (at < n) × (n ≤ 256) }
     ensures value { result ≡ entered_as (first ((beyond (position_at table.old at) h, OverLimit) ∷ [])) (set (take n (positions table.old)) at (added (position_at table.old at) h)) }
     ensures table_after { positions table.new ≡ step_left (first ((beyond (position_at table.old at) h, OverLimit) ∷ [])) (set (take n (positions table.old)) at (added (position_at table.old at) h)) (positions table.old) }
 {
     let p = position_at(table, at);
-    if is_beyond(p, h) {
-        return Entered::Refused(Refusal::OverLimit);
-    }
+    refusal::refuse(is_beyond(p, h), Refusal::OverLimit)?;
     put_position(table, at, join(p, h));
-    Entered::Names(n)
+    Ok(n)
 }
 
 // One holding of a job, entered among the first `names` positions of a table of the right length.
-fn put_in(table: &mut [usize], names: usize, h: Lot) -> Entered
+fn put_in(table: &mut [usize], names: usize, h: Lot) -> Result<usize, Refusal>
     requires { (length table.old ≡ 1792) × (names ≤ 256) }
     ensures value { result ≡ entered_as (first (entered_lines (first_ones names table.old) h)) (entered (first_ones names table.old) h) }
     ensures table_after { positions table.new ≡ step_left (first (entered_lines (first_ones names table.old) h)) (entered (first_ones names table.old) h) (positions table.old) }
@@ -245,23 +215,21 @@ fn put_in(table: &mut [usize], names: usize, h: Lot) -> Entered
 }
 
 // 9 and 10 of a table of so many numbers with so many names in it.
-pub fn judge_table(cells: usize, names: usize) -> Outcome
+#[tactic(auto, unfolding(crate::specs::Ledger::table_lines, refusal::specs::Table::first, refusal::specs::Table::or_else))]
+pub fn judge_table(cells: usize, names: usize) -> Result<(), Refusal>
     ensures { result ≡ first (table_lines cells names) }
 {
-    let o = refusal::refuse(cells != TABLE_CELLS, Refusal::SliceLength, Outcome::Done);
-    refusal::refuse(MOST_NAMES < names, Refusal::OverLimit, o)
+    refusal::refuse(MOST_NAMES < names, Refusal::OverLimit)?;
+    refusal::refuse(cells != TABLE_CELLS, Refusal::SliceLength)
 }
 
-// The holding among the first `names` positions, where the table was judged so.
-fn enter_judged(table: &mut [usize], names: usize, h: Lot, judged: Outcome) -> Entered
-    requires { judged ≡ first (table_lines (length table.old) names) }
+// The holding among the first `names` positions, where the table can have them.
+fn enter_judged(table: &mut [usize], names: usize, h: Lot) -> Result<usize, Refusal>
     ensures value { result ≡ entered_as (enter_outcome table.old names h) (entered (first_ones names table.old) h) }
     ensures step_left { StepLeft (enter_outcome table.old names h) (entered (first_ones names table.old) h) table.old table.new }
 {
-    match judged {
-        Outcome::Done => put_in(table, names, h),
-        Outcome::Refused(r) => Entered::Refused(r),
-    }
+    judge_table(table.len(), names)?;
+    put_in(table, names, h)
 }
 
 // What stands past the first `names` positions of a table is zero.
@@ -269,26 +237,15 @@ pub fn clear_past(table: &mut [usize], names: usize)
     ensures { table.new ≡ cleared_past names table.old }
 {
     if names <= MOST_NAMES {
-        lent::clear_numbers_from(table, names * 7);
-    }
-}
-
-// How many names there are now; after a refusal none.
-fn names_after(said: Entered) -> usize
-    ensures { result ≡ names_after said }
-{
-    match said {
-        Entered::Names(n) => n,
-        Entered::Refused(_) => 0,
+        lent::clear_from(table, names * 7);
     }
 }
 
 // One holding of a job, entered among the first `names` positions of the table, zeros after them. A refusal leaves zeros throughout.
-pub fn enter(table: &mut [usize], names: usize, h: Lot) -> Entered
+pub fn enter(table: &mut [usize], names: usize, h: Lot) -> Result<usize, Refusal>
     ensures { LotEntered table.old names h result table.new }
 {
-    let judged = judge_table(table.len(), names);
-    let said = enter_judged(table, names, h, judged);
-    clear_past(table, names_after(said));
+    let said = enter_judged(table, names, h);
+    clear_past(table, said.unwrap_or(0));
     said
 }

@@ -9,17 +9,15 @@ use native.Mathlib.Omega.{arith}
 use borrow.Author.Tests.{ltb-true, ltb-false, lt-ltb, le-ltb, eq-eqb, ne_eqb, eqb-true, not-false}
 use lib.Dec.{ltb, eqb}
 use lib.ListN.{replicate}
-use Rattle.refusal.specs.Table.{first}
+use Rattle.refusal.specs.Table.{first, Outcome}
 use Rattle.refusal.specs.Telling.{tells}
 use Rattle.refusal.specs.declared.Refusal.{Refusal}
 use Rattle.refusal.specs.declared.Refusal.TheVariants.{DimensionMismatch, ShortBuffer}
-use Rattle.refusal.specs.declared.Outcome.{Outcome}
-use Rattle.refusal.specs.declared.Outcome.TheVariants.{Done, Refused}
 use Rattle.refusal.proofs.Tables.{none, first_done, first_refused, parts_done}
 use Rattle.lent.specs.Grid.{over}
-use Rattle.lent.specs.Lent.{over_limit, other_length, sizes, squares, laid, answer_of, answer_tells, told_of}
-use Rattle.lent.specs.declared.Answer.{Answer}
+use Rattle.lent.specs.Lent.{over_limit, other_length, sizes, squares, laid, answer_of, answer_tells, told_of, Answer}
 use Rattle.lent.proofs.Laws.{same_or_not, over_replicate, either}
+use Rattle.std.specs.Prelude.{Ok, Err}
 
 -- ---- the tests
 
@@ -77,7 +75,7 @@ pub same_length : (len rows w : ℕ) → other_length len rows w ≡ false → l
 unfolding other_length
 same_length len rows w e = eqb-true len (rows * w) (not-false (eqb len (rows * w)) e)
 
-pub sized_done : (len rows w : ℕ) → first (sizes len rows w) ≡ Done → Sized len rows w
+pub sized_done : (len rows w : ℕ) → first (sizes len rows w) ≡ Ok tt → Sized len rows w
 unfolding sizes
 sized_done len rows w e =
     let a = none (sizes len rows w) e in
@@ -93,15 +91,15 @@ pub record Squared (len rows w room : ℕ) : Type 0 where
   pub cells : len ≡ w * w
   pub roomy : w * w ≤ room
 
-pub squared_refused : (len rows w room : ℕ) (r : Refusal) → first (sizes len rows w) ≡ Refused r → first (squares len rows w room) ≡ Refused r
+pub squared_refused : (len rows w room : ℕ) (r : Refusal) → first (sizes len rows w) ≡ Err r → first (squares len rows w room) ≡ Err r
 unfolding squares
 squared_refused len rows w room r e = first_refused (sizes len rows w) _ r e
 
-pub squared_sized : (len rows w room : ℕ) → first (sizes len rows w) ≡ Done → first (squares len rows w room) ≡ first ((ltb room (w * w), ShortBuffer) ∷ (not (eqb rows w), DimensionMismatch) ∷ [])
+pub squared_sized : (len rows w room : ℕ) → first (sizes len rows w) ≡ Ok tt → first (squares len rows w room) ≡ first ((ltb room (w * w), ShortBuffer) ∷ (not (eqb rows w), DimensionMismatch) ∷ [])
 unfolding squares
 squared_sized len rows w room e = first_done (sizes len rows w) _ e
 
-pub squared_done : (len rows w room : ℕ) → first (squares len rows w room) ≡ Done → Squared len rows w room
+pub squared_done : (len rows w room : ℕ) → first (squares len rows w room) ≡ Ok tt → Squared len rows w room
 unfolding squares
 squared_done len rows w room e =
     let d = (parts_done (sizes len rows w) _ e).0 in
@@ -114,22 +112,22 @@ squared_done len rows w room e =
 
 module _ {A : Type 0} (z : A) where
   -- cleared, then the cells written over its front
-  pub laid_done : (o : Outcome) (room : ℕ) (cells : List A) → o ≡ Done → over cells (replicate room z) ≡ laid z o room cells
+  pub laid_done : (o : Outcome) (room : ℕ) (cells : List A) → o ≡ Ok tt → over cells (replicate room z) ≡ laid z o room cells
   unfolding laid
   laid_done o room cells e = rw e (over_replicate cells room z)
 
-  pub laid_refused : (o : Outcome) (r : Refusal) (room : ℕ) (cells : List A) → o ≡ Refused r → replicate room z ≡ laid z o room cells
+  pub laid_refused : (o : Outcome) (r : Refusal) (room : ℕ) (cells : List A) → o ≡ Err r → replicate room z ≡ laid z o room cells
   unfolding laid
   laid_refused o r room cells e = rw e
 
 -- ---- how a call ends that judges, clears, fills and answers: what it returns, and what its buffer holds
 
 module _ {A : Type 0} (z : A) (said o : Outcome) (answer : Answer) (rows w room : ℕ) (cells out : List A) where
-  pub ends_refused : (r : Refusal) → said ≡ o → said ≡ Refused r → answer ≡ answer_of said rows w → out ≡ replicate room z
+  pub ends_refused : (r : Refusal) → said ≡ o → said ≡ Err r → answer ≡ answer_of said rows w → out ≡ replicate room z
       → (answer ≡ answer_of o rows w) × (out ≡ laid z o room cells)
   ends_refused r e h a b = (rw (← e) a, b ∙ laid_refused z o r room cells (sym e ∙ h))
 
-  pub ends_done : (blank : List A) → said ≡ o → said ≡ Done → answer ≡ answer_of said rows w → out ≡ over cells blank → blank ≡ replicate room z
+  pub ends_done : (blank : List A) → said ≡ o → said ≡ Ok tt → answer ≡ answer_of said rows w → out ≡ over cells blank → blank ≡ replicate room z
       → (answer ≡ answer_of o rows w) × (out ≡ laid z o room cells)
   ends_done blank e h a f b = (rw (← e) a, f ∙ rw b (laid_done z o room cells (sym e ∙ h)))
 
@@ -168,12 +166,12 @@ cells_lack room n p =
 -- how a call went, out of its answer
 pub told_as : (o : Outcome) (rows w : ℕ) → told_of (answer_of o rows w) ≡ o
 unfolding told_of answer_of
-told_as Done rows w = refl
-told_as (Refused r) rows w = refl
+told_as (Ok _) rows w = refl
+told_as (Err r) rows w = refl
 
 -- ---- what an answer tells is what the outcome that it was made from does
 
 pub answer_tells_lem : (o : Outcome) (rows w : ℕ) → answer_tells (answer_of o rows w) ≡ tells o (rows, w)
 unfolding answer_of
-answer_tells_lem Done rows w = refl
-answer_tells_lem (Refused r) rows w = refl
+answer_tells_lem (Ok _) rows w = refl
+answer_tells_lem (Err r) rows w = refl

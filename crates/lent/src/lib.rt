@@ -7,7 +7,7 @@ ghost use Rattle.refusal.specs.Table.{first};
 ghost use Rattle.lent.specs.Grid.{zeros, noughts, over};
 ghost use Rattle.lent.specs.Lent.{shape_of, too_big, misfits, sizes, squares, over_limit, other_length, answer_of, told_of};
 
-use refusal::{Outcome, Refusal};
+use refusal::Refusal;
 
 pub const MOST_ASSETS: usize = 64;
 
@@ -19,67 +19,51 @@ pub const MOST_CELLS: usize = 4096;
 
 pub const LEAST_SCRATCH: usize = 8192;
 
-// A matrix that a call may be given or not.
+// How many rows and columns a matrix has.
 #[derive(Clone, Copy)]
-pub enum Shape {
-    Absent,
-    Of { rows: usize, columns: usize },
+pub struct Size {
+    pub rows: usize,
+    pub columns: usize,
 }
 
-// What a call that answers a matrix returns; its cells are in the lent buffer.
-#[derive(Clone, Copy)]
-pub enum Answer {
-    Matrix { rows: usize, columns: usize },
-    Refused(Refusal),
+// What an entry of a cleared buffer is.
+pub trait Zero: Copy {
+    ghost ZERO: { Self };
+
+    const ZERO: Self;
 }
 
-// Every entry is +0.
-pub fn clear(out: &mut [f64])
-    ensures { out.new ≡ zeros (length out.old) }
+impl Zero for f64 {
+    ghost ZERO = { pz };
+
+    const ZERO: f64 = 0.0;
+}
+
+impl Zero for usize {
+    ghost ZERO = { 0 };
+
+    const ZERO: usize = 0;
+}
+
+impl Zero for u8 {
+    ghost ZERO = { 0 };
+
+    const ZERO: u8 = 0;
+}
+
+// Every entry is zero.
+pub fn clear<T: Zero>(out: &mut [T])
+    ensures { out.new ≡ replicate (length out.old) T.ZERO }
 {
     clear_from(out, 0);
 }
 
-pub fn clear_numbers(out: &mut [usize])
-    ensures { out.new ≡ noughts (length out.old) }
+// Every entry from place `start` on is zero; those before it stay.
+pub fn clear_from<T: Zero>(out: &mut [T], start: usize)
+    ensures { out.new ≡ take start out.old ++ replicate (length out.old - start) T.ZERO }
 {
-    clear_numbers_from(out, 0);
-}
-
-pub fn clear_bytes(out: &mut [u8])
-    ensures { out.new ≡ noughts (length out.old) }
-{
-    clear_bytes_from(out, 0);
-}
-
-// Every entry from place `start` on is +0; those before it stay.
-pub fn clear_from(out: &mut [f64], start: usize)
-    ensures { out.new ≡ take start out.old ++ zeros (length out.old - start) }
-{
-    let mut i = start;
-    while i < out.len() {
-        out[i] = 0.0;
-        i += 1;
-    }
-}
-
-pub fn clear_numbers_from(out: &mut [usize], start: usize)
-    ensures { out.new ≡ take start out.old ++ noughts (length out.old - start) }
-{
-    let mut k = start;
-    while k < out.len() {
-        out[k] = 0;
-        k += 1;
-    }
-}
-
-pub fn clear_bytes_from(out: &mut [u8], start: usize)
-    ensures { out.new ≡ take start out.old ++ noughts (length out.old - start) }
-{
-    let mut at = start;
-    while at < out.len() {
-        out[at] = 0;
-        at += 1;
+    for i in start..out.len() {
+        out[i] = T::ZERO;
     }
 }
 
@@ -87,14 +71,8 @@ pub fn clear_bytes_from(out: &mut [u8], start: usize)
 pub fn copy(from: &[f64], to: &mut [f64])
     ensures { to.new ≡ over (take (length to.old) from.now) to.old }
 {
-    let mut n = 0;
-    while n < from.len() {
-        if to.len() <= n {
-            return;
-        }
-        to[n] = from[n];
-        n += 1;
-    }
+    let n = to.len().min(from.len());
+    to[..n].copy_from_slice(&from[..n]);
 }
 
 // Rows, columns or cells are over their limit (9). The product is taken once both are small.
@@ -124,78 +102,62 @@ pub fn has_other_length(len: usize, rows: usize, columns: usize) -> bool
 }
 
 // A matrix that is given has its sizes.
-pub fn shape_if(given: bool, rows: usize, columns: usize) -> Shape
+#[tactic(auto, unfolding(crate::specs::Lent::shape_of))]
+pub fn shape_if(given: bool, rows: usize, columns: usize) -> Option<Size>
     ensures { result ≡ shape_of given rows columns }
 {
-    if given {
-        return Shape::Of { rows, columns };
-    }
-    Shape::Absent
+    given.then_some(Size { rows, columns })
 }
 
-pub fn too_big(shape: Shape) -> bool
+#[tactic(auto, unfolding(crate::specs::Lent::too_big))]
+pub fn too_big(shape: Option<Size>) -> bool
     ensures { result ≡ too_big shape }
 {
-    match shape {
-        Shape::Absent => false,
-        Shape::Of { rows, columns } => over_limit(rows, columns),
-    }
+    shape.is_some_and(|s| over_limit(s.rows, s.columns))
 }
 
-pub fn is_misfit(shape: Shape, len: usize) -> bool
+#[tactic(auto, unfolding(crate::specs::Lent::misfits))]
+pub fn is_misfit(shape: Option<Size>, len: usize) -> bool
     ensures { result ≡ misfits shape len }
 {
-    match shape {
-        Shape::Absent => false,
-        Shape::Of { rows, columns } => has_other_length(len, rows, columns),
-    }
+    shape.is_some_and(|s| has_other_length(len, s.rows, s.columns))
 }
 
 // The refusal that the sizes of a lone matrix give, if there is one.
-pub fn sized(len: usize, rows: usize, columns: usize) -> Outcome
+#[tactic(auto, unfolding(crate::specs::Lent::sizes, refusal::specs::Table::first, refusal::specs::Table::or_else))]
+pub fn sized(len: usize, rows: usize, columns: usize) -> Result<(), Refusal>
     ensures { result ≡ first (sizes len rows columns) }
 {
-    let rest = refusal::refuse(
-        has_other_length(len, rows, columns),
-        Refusal::SliceLength,
-        Outcome::Done,
-    );
-    refusal::refuse(over_limit(rows, columns), Refusal::OverLimit, rest)
+    refusal::refuse(over_limit(rows, columns), Refusal::OverLimit)?;
+    refusal::refuse(has_other_length(len, rows, columns), Refusal::SliceLength)
 }
 
 // The refusal that the sizes of a lone matrix give which must be square, with an answer as large in a buffer of `room`.
-pub fn squared(len: usize, rows: usize, columns: usize, room: usize) -> Outcome
+#[tactic(auto, using(crate::proofs::Sizes::squared_refused, crate::proofs::Sizes::squared_sized, crate::proofs::Sizes::sized_done), unfolding(refusal::specs::Table::first, refusal::specs::Table::or_else))]
+pub fn squared(len: usize, rows: usize, columns: usize, room: usize) -> Result<(), Refusal>
     ensures { result ≡ first (squares len rows columns room) }
 {
-    let said = sized(len, rows, columns);
-    let Outcome::Done = said else {
-        return said;
-    };
-    let rest = refusal::refuse(rows != columns, Refusal::DimensionMismatch, Outcome::Done);
-    refusal::refuse(room < columns * columns, Refusal::ShortBuffer, rest)
+    sized(len, rows, columns)?;
+    refusal::refuse(room < columns * columns, Refusal::ShortBuffer)?;
+    refusal::refuse(rows != columns, Refusal::DimensionMismatch)
 }
 
 // The answer of a call that went so, and makes a matrix of these sizes.
-pub fn answered(said: Outcome, rows: usize, columns: usize) -> Answer
+#[tactic(auto, unfolding(crate::specs::Lent::answer_of))]
+pub fn answered(said: Result<(), Refusal>, rows: usize, columns: usize) -> Result<Size, Refusal>
     ensures { result ≡ answer_of said rows columns }
 {
-    match said {
-        Outcome::Done => Answer::Matrix { rows, columns },
-        Outcome::Refused(r) => Answer::Refused(r),
-    }
+    said?;
+    Ok(Size { rows, columns })
 }
 
 // How a call that answers a matrix went.
-pub fn told(answer: Answer) -> Outcome
+#[tactic(auto, unfolding(crate::specs::Lent::told_of))]
+pub fn told(answer: Result<Size, Refusal>) -> Result<(), Refusal>
     ensures { result ≡ told_of answer }
 {
-    match answer {
-        Answer::Matrix {
-            rows: _,
-            columns: _,
-        } => Outcome::Done,
-        Answer::Refused(r) => Outcome::Refused(r),
-    }
+    answer?;
+    Ok(())
 }
 
 // Under the 2(n − 1) numbers of n assets' merge rows. By a division, here and below: the product could overflow.

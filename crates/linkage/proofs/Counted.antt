@@ -12,7 +12,6 @@ use lib.Ieee.{Float}
 use Rattle.lent.specs.Range.{range}
 use Rattle.lent.proofs.Range.{range_none, range_suc}
 use Rattle.refusal.specs.declared.Refusal.{Refusal}
-use Rattle.refusal.specs.declared.Outcome.TheVariants.{Done, Refused}
 use Rattle.linkage.specs.declared.Linkage.{Linkage}
 use Rattle.linkage.specs.Merge.{state_at}
 use Rattle.slots.specs.Inner.{packed}
@@ -24,6 +23,7 @@ use Rattle.linkage.specs.Children.{children_outcome, children_answer, joined_of,
 use Rattle.linkage.proofs.Judged.{children_done}
 use Rattle.linkage.proofs.Rows.{state_inv}
 use Rattle.linkage.proofs.Packed.{count_packed}
+use Rattle.std.specs.Prelude.{Ok, Err}
 
 -- (r + 1)³
 cube : (r : ℕ) → (r + 1) * (r + 1) * (r + 1) ≡ r * r * r + 3 * (r * r) + 3 * r + 1
@@ -79,13 +79,13 @@ unfolding pairs_visited
 all_pairs l n xs h b = omega (arith, pairs_left l n xs h (n - 1) 1 (omega arith) (omega arith))
 
 -- the same of what a call answers, and 0 of a refused one
-pub told_pairs : (l : Linkage) (xs : List Float) (rows w room : ℕ) → children_outcome xs rows w room ≡ Done → 1 ≤ w
+pub told_pairs : (l : Linkage) (xs : List Float) (rows w room : ℕ) → children_outcome xs rows w room ≡ Ok tt → 1 ≤ w
     → 6 * pairs_of (children_answer l xs rows w room) + w ≡ w * w * w
 unfolding children_answer joined_of pairs_of children_outcome
 told_pairs l xs rows w room e b =
     rw e (all_pairs l w xs (children_done (length xs) rows w room e).wide b)
 
-pub no_pairs : (l : Linkage) (xs : List Float) (rows w room : ℕ) (r : Refusal) → children_outcome xs rows w room ≡ Refused r
+pub no_pairs : (l : Linkage) (xs : List Float) (rows w room : ℕ) (r : Refusal) → children_outcome xs rows w room ≡ Err r
     → pairs_of (children_answer l xs rows w room) ≡ 0
 unfolding children_answer joined_of pairs_of
 no_pairs l xs rows w room r e = rw e refl

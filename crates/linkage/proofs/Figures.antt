@@ -12,21 +12,17 @@ use Rattle.arithmetic.specs.Constants.{pz, unit, two}
 use Rattle.arithmetic.specs.Arithmetic.{min_of, max_of, abs_of}
 use Rattle.arithmetic.specs.Root.{isqrt, root}
 use Rattle.refusal.specs.Refusal.{number_of}
-use Rattle.refusal.specs.Table.{first}
-use Rattle.refusal.specs.declared.Outcome.{Outcome}
-use Rattle.refusal.specs.declared.Outcome.TheVariants as outcome
+use Rattle.refusal.specs.Table.{first, Outcome}
 use Rattle.lent.specs.Range.{span, range}
 use Rattle.lent.specs.Lent.{over_limit, other_length, sizes, laid}
 use Rattle.linkage.specs.declared.Distance.TheVariants.{Correlation, DistanceOfDistances}
 use Rattle.linkage.specs.declared.Linkage.TheVariants.{Single, Complete, Average, Ward}
-use Rattle.linkage.specs.declared.NamedDistance.{NamedDistance}
-use Rattle.linkage.specs.declared.NamedDistance.TheVariants as distance
-use Rattle.linkage.specs.declared.NamedLinkage.{NamedLinkage}
-use Rattle.linkage.specs.declared.NamedLinkage.TheVariants as linkage
 use Rattle.linkage.specs.Names.{distance_named, linkage_named}
 use Rattle.linkage.specs.Merge.{ward_f, update_f, pair_before, near, better, offer, look, scan_row, scan_from, scan_all, both, movable, moved, moved_all, merged, step, copied, start, state_at, merge_rows}
 use Rattle.linkage.specs.Pairs.{count_one, count_row, count_from, count_all, pairs_at, pairs_visited}
 use Rattle.linkage.specs.Children.{children_table, children_outcome, joined_of, children_answer, pairs_of, children_rows}
+use Rattle.std.specs.Prelude.{Ok, Err}
+use Rattle.linkage.specs.Outcomes.{NamedDistance, NamedLinkage}
 
 abbrev all : List Bool → Bool
 all [] = true
@@ -112,8 +108,8 @@ methods =
 
 -- 0 where a call went through, else the refusal's number
 abbrev told : Outcome → ℕ
-told outcome.Done = 0
-told (outcome.Refused r) = number_of r
+told (Ok _) = 0
+told (Err r) = number_of r
 
 abbrev calls : List Bool
 calls =
@@ -141,16 +137,16 @@ counts =
     ∷ []
 
 abbrev is_linkage : NamedLinkage → ℕ
-is_linkage (linkage.Of Single) = 100
-is_linkage (linkage.Of Complete) = 101
-is_linkage (linkage.Of Average) = 102
-is_linkage (linkage.Of Ward) = 103
-is_linkage (linkage.Refused r) = number_of r
+is_linkage (Ok Single) = 100
+is_linkage (Ok Complete) = 101
+is_linkage (Ok Average) = 102
+is_linkage (Ok Ward) = 103
+is_linkage (Err r) = number_of r
 
 abbrev is_distance : NamedDistance → ℕ
-is_distance (distance.Of Correlation) = 100
-is_distance (distance.Of DistanceOfDistances) = 101
-is_distance (distance.Refused r) = number_of r
+is_distance (Ok Correlation) = 100
+is_distance (Ok DistanceOfDistances) = 101
+is_distance (Err r) = number_of r
 
 abbrev names : List Bool
 names =

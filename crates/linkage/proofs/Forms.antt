@@ -28,10 +28,10 @@ use Rattle.triangle.proofs.Written.{length_write, square_read, holds_write, hold
 use Rattle.triangle.proofs.Meaning.{mirrored_cells}
 use Rattle.linkage.specs.declared.Linkage.{Linkage}
 use Rattle.linkage.specs.declared.Merging.{Merging}
-use Rattle.linkage.specs.declared.Tried.{Tried}
-use Rattle.linkage.specs.declared.Tried.TheVariants.{Made, Lopsided}
 use Rattle.linkage.specs.Merge.{nothing, offer, update_f, copied}
 use Rattle.linkage.specs.Inner.{meet, meet_row, meet_all, Merges, drawn, drawn_at, tried_of}
+use Rattle.std.specs.Prelude.{Some, None}
+use Rattle.linkage.specs.Outcomes.{Tried}
 
 -- ---- the accessor
 
@@ -200,19 +200,19 @@ pub told_upper : (n : ℕ) (xs d e : List Float) → n ≤ 64 → length xs ≡ 
 told_upper n xs d e h l fit t = t ∙ rw (room_for n xs e h l fit) refl
 
 is_made : Tried → Bool
-is_made (Made pairs) = true
-is_made Lopsided = false
+is_made (Some pairs) = true
+is_made None = false
 
 pairs_made : Tried → ℕ
-pairs_made (Made pairs) = pairs
-pairs_made Lopsided = 0
+pairs_made (Some pairs) = pairs
+pairs_made None = 0
 
-pub tried_made : (m : Bool) (p q : ℕ) (a b r : List ℕ) (t : Tried) → t ≡ tried_of m p → t ≡ Made q → r ≡ cond m a b → (r ≡ a) × (q ≡ p)
+pub tried_made : (m : Bool) (p q : ℕ) (a b r : List ℕ) (t : Tried) → t ≡ tried_of m p → t ≡ Some q → r ≡ cond m a b → (r ≡ a) × (q ≡ p)
 unfolding tried_of is_made pairs_made
 tried_made true p q a b r t e f g = (g, ap pairs_made (sym f ∙ e))
 tried_made false p q a b r t e f g = absurd (false≢true (ap is_made (sym e ∙ f)))
 
-pub tried_lopsided : (m : Bool) (p : ℕ) (a b r : List ℕ) (t : Tried) → t ≡ tried_of m p → t ≡ Lopsided → r ≡ cond m a b → r ≡ b
+pub tried_lopsided : (m : Bool) (p : ℕ) (a b r : List ℕ) (t : Tried) → t ≡ tried_of m p → t ≡ None → r ≡ cond m a b → r ≡ b
 unfolding tried_of is_made
 tried_lopsided true p a b r t e f g = absurd (false≢true (ap is_made (sym f ∙ e)))
 tried_lopsided false p a b r t e f g = g

@@ -5,15 +5,14 @@ use mathlib.Core.Bool.{Bool, true, false, cond}
 use mathlib.Core.List.{List}
 use Rattle.text.specs.Bytes.{bytes, is_word}
 use Rattle.refusal.specs.Telling.{accepts, refuses, tells}
-use Rattle.refusal.specs.declared.Outcome.{Outcome}
-use Rattle.refusal.specs.declared.Outcome.TheVariants.{Done, Refused}
 use Rattle.refusal.specs.declared.Refusal.TheVariants.{UnknownDistance, UnknownLinkage}
 use Rattle.linkage.specs.declared.Distance.TheVariants.{Correlation, DistanceOfDistances}
 use Rattle.linkage.specs.declared.Linkage.TheVariants.{Single, Complete, Average, Ward}
-use Rattle.linkage.specs.declared.NamedDistance.{NamedDistance}
-use Rattle.linkage.specs.declared.NamedLinkage.{NamedLinkage}
 use Rattle.linkage.specs.Children.{joined_of, joined_tells}
 use Rattle.linkage.specs.Names.{distance_named, linkage_named, distance_tells, linkage_tells}
+use Rattle.std.specs.Prelude.{Ok, Err}
+use Rattle.linkage.specs.Outcomes.{NamedDistance, NamedLinkage}
+use Rattle.refusal.specs.Table.{Outcome}
 
 -- what is picked by a test tells what each of the two does
 told_distance : (b : Bool) (x y : NamedDistance) → distance_tells (cond b x y) ≡ cond b (distance_tells x) (distance_tells y)
@@ -49,5 +48,5 @@ linkage_tells_lem name =
 -- the rows made and the pairs looked at, or the refusal
 pub joined_tells_lem : (o : Outcome) (rows pairs : ℕ) → joined_tells (joined_of o rows pairs) ≡ tells o (rows, pairs)
 unfolding joined_of
-joined_tells_lem Done rows pairs = refl
-joined_tells_lem (Refused r) rows pairs = refl
+joined_tells_lem (Ok _) rows pairs = refl
+joined_tells_lem (Err r) rows pairs = refl

@@ -1,6 +1,6 @@
 -- What the private functions ask of one another and promise: may be skipped. The scan and the update over the places of the packed slots, whatever form the
 -- distances are held in (proofs/Packed.antt and proofs/Forms.antt have that they are those of specs/Merge.antt), and the arrays as a state. Definitions only.
-use Rattle.std.specs.Prelude.{ℕ, ◌+◌, ◌-◌, ◌≤◌, ◌<◌, ◌≡◌, Bool, true, false, not, ◌&&◌, cond, List, eqb, length, get_or, set, Float}
+use Rattle.std.specs.Prelude.{ℕ, ◌+◌, ◌-◌, ◌≤◌, ◌<◌, ◌≡◌, Bool, true, false, not, ◌&&◌, cond, List, eqb, length, get_or, set, Float, Some, None}
 use Rattle.std.specs.Float.{nan}
 use Rattle.lent.specs.Range.{range}
 use Rattle.pairing.specs.declared.Best.{Best}
@@ -11,9 +11,8 @@ use Rattle.triangle.specs.declared.Form.{Form}
 use Rattle.triangle.specs.Inner.{held_at, write_of, Holds}
 use Rattle.linkage.specs.declared.Linkage.{Linkage}
 use Rattle.linkage.specs.declared.Merging.{Merging}
-use Rattle.linkage.specs.declared.Tried.{Tried}
-use Rattle.linkage.specs.declared.Tried.TheVariants.{Made, Lopsided}
 use Rattle.linkage.specs.Merge.{State, update_f}
+use Rattle.linkage.specs.Outcomes.{Tried}
 
 -- what a function holds in its arrays, as one state
 abbrev pub state : List Float → List ℕ → List Bool → List Float → List ℕ → State
@@ -71,5 +70,5 @@ pub record Stands (form : Form) (n : ℕ) (s : State) (d : List Float) (ids slot
 
 -- what the triangle gives: the pairs, where every cell is its mirror
 unfoldable pub tried_of : Bool → ℕ → Tried
-tried_of true pairs = Made pairs
-tried_of false pairs = Lopsided
+tried_of true pairs = Some pairs
+tried_of false pairs = None

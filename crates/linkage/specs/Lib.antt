@@ -1,3 +1,4 @@
+pub mod Outcomes
 pub mod Names
 pub mod Merge
 pub mod Pairs

@@ -17,7 +17,7 @@ ghost use Rattle.linkage.specs.Inner.{state, numbered, meet, meet_all, drawn, dr
 ghost use Rattle.linkage.specs.Children.{children_table, children_answer, children_rows};
 
 use pairing::{Best, Slot};
-use refusal::{Outcome, Refusal};
+use refusal::Refusal;
 use tree::{Asset, Node};
 use triangle::Form;
 
@@ -35,23 +35,11 @@ pub enum Linkage {
     Ward,
 }
 
-#[derive(Clone, Copy)]
-pub enum NamedDistance {
-    Of(Distance),
-    Refused(Refusal),
-}
-
-#[derive(Clone, Copy)]
-pub enum NamedLinkage {
-    Of(Linkage),
-    Refused(Refusal),
-}
-
 // The merge rows made, and the pairs of slots looked at for them.
 #[derive(Clone, Copy)]
-pub enum Joined {
-    Made { rows: usize, pairs: usize },
-    Refused(Refusal),
+pub struct Merged {
+    pub rows: usize,
+    pub pairs: usize,
 }
 
 // The best of the pairs looked at, and how many they are.
@@ -71,41 +59,34 @@ struct Merging {
     ny: f64,
 }
 
-// What the triangle gave: the pairs looked at, or nothing, where some cell is not its mirror.
-#[derive(Clone, Copy)]
-enum Tried {
-    Made(usize),
-    Lopsided,
-}
-
-pub fn distance_named(name: &[u8]) -> NamedDistance
+pub fn distance_named(name: &[u8]) -> Result<Distance, Refusal>
     ensures { result ≡ distance_named name.now }
 {
     if text::is_word(name, b"correlation") {
-        return NamedDistance::Of(Distance::Correlation);
+        return Ok(Distance::Correlation);
     }
     if text::is_word(name, b"distance_of_distances") {
-        return NamedDistance::Of(Distance::DistanceOfDistances);
+        return Ok(Distance::DistanceOfDistances);
     }
-    NamedDistance::Refused(Refusal::UnknownDistance)
+    Err(Refusal::UnknownDistance)
 }
 
-pub fn linkage_named(name: &[u8]) -> NamedLinkage
+pub fn linkage_named(name: &[u8]) -> Result<Linkage, Refusal>
     ensures { result ≡ linkage_named name.now }
 {
     if text::is_word(name, b"single") {
-        return NamedLinkage::Of(Linkage::Single);
+        return Ok(Linkage::Single);
     }
     if text::is_word(name, b"complete") {
-        return NamedLinkage::Of(Linkage::Complete);
+        return Ok(Linkage::Complete);
     }
     if text::is_word(name, b"average") {
-        return NamedLinkage::Of(Linkage::Average);
+        return Ok(Linkage::Average);
     }
     if text::is_word(name, b"ward") {
-        return NamedLinkage::Of(Linkage::Ward);
+        return Ok(Linkage::Ward);
     }
-    NamedLinkage::Refused(Refusal::UnknownLinkage)
+    Err(Refusal::UnknownLinkage)
 }
 
 // Ward's distance, t being one over the three sizes' sum.
@@ -136,7 +117,7 @@ impl Linkage {
 fn merges(n: usize) -> usize
     ensures { result ≡ n - 1 }
 {
-    if n == 0 { 0 } else { n - 1 }
+    n.saturating_sub(1)
 }
 
 // Where the distance between slots r and c stands: the one accessor that knows the form.
@@ -193,7 +174,7 @@ fn next_near(row: &[f64], slots: &[usize; 64], from: usize, m: usize, limit: f64
         if !is_far_at(row, slots, j + 1, limit) {
             return j + 1;
         }
-        j = j + 2;
+        j += 2;
     }
     if j < m {
         if !is_far_at(row, slots, j, limit) {
@@ -266,7 +247,7 @@ fn scan_all(
     for i in 0..m {
         let row = scan_row(form, shifts, n, d, ids, slots, m, i, from, best);
         best = row.best;
-        pairs = pairs + row.pairs;
+        pairs += row.pairs;
         from = i + 2;
     }
     Looked { best, pairs }
@@ -299,19 +280,17 @@ fn move_one(
     let p = pair.x.0;
     let q = pair.y.0;
     let i = other.0;
-    if i != p {
-        if i != q {
-            let k = place(form, shifts, n, p, i);
-            let v = method.update(
-                d[k],
-                at(form, shifts, d, n, q, i),
-                pair.dxy,
-                pair.nx,
-                pair.ny,
-                sizes[i],
-            );
-            put_both(form, d, n, k, p, i, v);
-        }
+    if i != p && i != q {
+        let k = place(form, shifts, n, p, i);
+        let v = method.update(
+            d[k],
+            at(form, shifts, d, n, q, i),
+            pair.dxy,
+            pair.nx,
+            pair.ny,
+            sizes[i],
+        );
+        put_both(form, d, n, k, p, i, v);
     }
 }
 
@@ -394,9 +373,7 @@ fn fill(xs: &[f64], d: &mut [f64; 4096], m: usize)
     requires { (m ≤ 4096) × (m ≤ length xs.now) }
     ensures { d.new ≡ range (copied xs.now) 0 m d.old }
 {
-    for k in 0..m {
-        d[k] = xs[k];
-    }
+    d[..m].copy_from_slice(&xs[..m]);
 }
 
 // An asset's own node has the asset's number.
@@ -440,20 +417,19 @@ fn steps(
     triangle::shifts(form, n, &mut shifts);
     let mut pairs = 0;
     for k in 0..merges(n) {
-        pairs = pairs
-            + step_once(
-                method,
-                form,
-                &shifts,
-                n,
-                k,
-                n - k,
-                d,
-                &mut ids,
-                &mut slots,
-                &mut sizes,
-                rows,
-            );
+        pairs += step_once(
+            method,
+            form,
+            &shifts,
+            n,
+            k,
+            n - k,
+            d,
+            &mut ids,
+            &mut slots,
+            &mut sizes,
+            rows,
+        );
     }
     pairs
 }
@@ -469,93 +445,91 @@ fn in_square(method: Linkage, n: usize, xs: &[f64], rows: &mut [usize]) -> usize
 }
 
 // The same rows from the cells above the diagonal, copied to the front of d, where each is its mirror.
-fn from_above(method: Linkage, n: usize, xs: &[f64], d: &mut [f64], rows: &mut [usize]) -> Tried
+fn from_above(
+    method: Linkage,
+    n: usize,
+    xs: &[f64],
+    d: &mut [f64],
+    rows: &mut [usize],
+) -> Option<usize>
     requires { (n ≤ 64) × (length xs.now ≡ n * n) × (2 * (n - 1) ≤ length rows.old) × (met n n ≤ length d.old) }
     ensures { (result ≡ tried_of (mirrored n xs.now) (pairs_visited method n xs.now))
         × (rows.new ≡ cond (mirrored n xs.now) (over (merge_rows method n xs.now) rows.old) rows.old) }
 {
     if !triangle::above(xs, n, d) {
-        return Tried::Lopsided;
+        return None;
     }
     let pairs = steps(method, Form::Triangle, n, xs, d, rows);
-    Tried::Made(pairs)
+    Some(pairs)
 }
 
-// In 496 places, which are enough for 32 assets: clearing more than is used takes its time.
-fn in_few(method: Linkage, n: usize, xs: &[f64], rows: &mut [usize]) -> Tried
-    requires { (n ≤ 32) × (length xs.now ≡ n * n) × (2 * (n - 1) ≤ length rows.old) }
+// In N places: clearing more than is used takes its time.
+fn in_room<const N: usize>(
+    method: Linkage,
+    n: usize,
+    xs: &[f64],
+    rows: &mut [usize],
+) -> Option<usize>
+    requires { (n ≤ 64) × (length xs.now ≡ n * n) × (2 * (n - 1) ≤ length rows.old) × (met n n ≤ N) × (N ≤ 4096) }
     ensures { (result ≡ tried_of (mirrored n xs.now) (pairs_visited method n xs.now))
         × (rows.new ≡ cond (mirrored n xs.now) (over (merge_rows method n xs.now) rows.old) rows.old) }
 {
-    let mut d = [0.0; 496];
+    let mut d = [0.0; N];
     from_above(method, n, xs, &mut d, rows)
 }
 
-// In 2,016 places, which are enough for 64.
-fn in_many(method: Linkage, n: usize, xs: &[f64], rows: &mut [usize]) -> Tried
-    requires { (n ≤ 64) × (length xs.now ≡ n * n) × (2 * (n - 1) ≤ length rows.old) }
-    ensures { (result ≡ tried_of (mirrored n xs.now) (pairs_visited method n xs.now))
-        × (rows.new ≡ cond (mirrored n xs.now) (over (merge_rows method n xs.now) rows.old) rows.old) }
-{
-    let mut d = [0.0; 2016];
-    from_above(method, n, xs, &mut d, rows)
-}
-
-// Each array has a function of its own, so that they lie over each other in a call's frame.
-fn in_triangle(method: Linkage, n: usize, xs: &[f64], rows: &mut [usize]) -> Tried
+// 496 places are enough for 32 assets, and 2,016 for 64. Each array has a call of its own: so they lie over each other.
+fn in_triangle(method: Linkage, n: usize, xs: &[f64], rows: &mut [usize]) -> Option<usize>
     requires { (n ≤ 64) × (length xs.now ≡ n * n) × (2 * (n - 1) ≤ length rows.old) }
     ensures { (result ≡ tried_of (mirrored n xs.now) (pairs_visited method n xs.now))
         × (rows.new ≡ cond (mirrored n xs.now) (over (merge_rows method n xs.now) rows.old) rows.old) }
 {
     if n <= 32 {
-        return in_few(method, n, xs, rows);
+        in_room::<496>(method, n, xs, rows)
+    } else {
+        in_room::<2016>(method, n, xs, rows)
     }
-    in_many(method, n, xs, rows)
 }
 
 // The merge rows of n assets over the front of rows. The answer is the pairs looked at.
+#[tactic(auto, using(crate::proofs::Forms::tried_lopsided))]
 fn merge_rows(method: Linkage, n: usize, xs: &[f64], rows: &mut [usize]) -> usize
     requires { (n ≤ 64) × (length xs.now ≡ n * n) × (2 * (n - 1) ≤ length rows.old) }
     ensures { (rows.new ≡ over (merge_rows method n xs.now) rows.old) × (result ≡ pairs_visited method n xs.now) }
 {
-    match in_triangle(method, n, xs, rows) {
-        Tried::Made(pairs) => pairs,
-        Tried::Lopsided => in_square(method, n, xs, rows),
+    if let Some(pairs) = in_triangle(method, n, xs, rows) {
+        return pairs;
     }
+    in_square(method, n, xs, rows)
 }
 
-fn judge(len: usize, rows: usize, columns: usize, room: usize) -> Outcome
+#[tactic(auto, unfolding(crate::specs::Children::children_table, lent::specs::Lent::sizes, refusal::specs::Table::first, refusal::specs::Table::or_else))]
+fn judge(len: usize, rows: usize, columns: usize, room: usize) -> Result<(), Refusal>
     ensures { result ≡ first (children_table len rows columns room) }
 {
-    let said = lent::sized(len, rows, columns);
-    let Outcome::Done = said else {
-        return said;
-    };
-    let rest = refusal::refuse(rows != columns, Refusal::DimensionMismatch, Outcome::Done);
-    refusal::refuse(room < 2 * merges(columns), Refusal::ShortBuffer, rest)
+    lent::sized(len, rows, columns)?;
+    refusal::refuse(lent::lacks_rows(room, columns), Refusal::ShortBuffer)?;
+    refusal::refuse(rows != columns, Refusal::DimensionMismatch)
 }
 
 // Row k holds the ids of the two nodes that are merged into node n + k, the smaller first. The answer is the rows made and the pairs looked at.
+#[tactic(auto, using(crate::proofs::Judged::children_done, lent::proofs::Sizes::laid_done), unfolding(crate::specs::Children::joined_of, crate::specs::Children::children_answer, crate::specs::Children::children_rows, crate::specs::Children::children_outcome, lent::specs::Lent::laid))]
 pub fn linkage_children(
     distance: &[f64],
     rows: usize,
     columns: usize,
     method: Linkage,
     out: &mut [usize],
-) -> Joined
+) -> Result<Merged, Refusal>
     ensures value { result ≡ children_answer method distance.now rows columns (length out.old) }
     ensures out_after { out.new ≡ children_rows method distance.now rows columns (length out.old) }
 {
     let said = judge(distance.len(), rows, columns, out.len());
-    lent::clear_numbers(out);
-    match said {
-        Outcome::Done => {
-            let pairs = merge_rows(method, columns, distance, out);
-            Joined::Made {
-                rows: merges(columns),
-                pairs,
-            }
-        }
-        Outcome::Refused(r) => Joined::Refused(r),
-    }
+    lent::clear(out);
+    said?;
+    let pairs = merge_rows(method, columns, distance, out);
+    Ok(Merged {
+        rows: merges(columns),
+        pairs,
+    })
 }

@@ -15,17 +15,17 @@ use Rattle.ceilings.specs.Figures.{are_unlike, figures_in}
 use Rattle.ceilings.proofs.Weighed.{alike}
 use Rattle.listing.specs.Listing.{ceiling_at, holding_at, ceiling_field, holding_line, line_of, ordered, listing, refusal_line, name_in}
 use Rattle.listing.specs.Inner.{Named, Listable}
-use Rattle.listing.specs.declared.Ceiling.{Ceiling}
-use Rattle.listing.specs.declared.Ceiling.TheVariants.{Absent, At}
 use Rattle.listing.specs.declared.Holding.{Holding}
+use Rattle.std.specs.Prelude.{Some, None}
+use Rattle.listing.specs.Outcomes.{Ceiling}
 
 -- ---- how long
 
 -- a ceiling takes at most 21 bytes
 ceiling_le : (c : Ceiling) → length (ceiling_field c) ≤ 21
 unfolding ceiling_field
-ceiling_le Absent = omega arith
-ceiling_le (At c) = omega (arith, decimal_long c)
+ceiling_le None = omega arith
+ceiling_le (Some c) = omega (arith, decimal_long c)
 
 -- an asset's line is at most 76 bytes
 line_le : (name : List ℕ) (h : Holding) → length name ≤ 16 → length (holding_line name h) ≤ 76
@@ -74,11 +74,11 @@ module _ {text starts : List ℕ} (p : Named text starts) where
 
 -- ---- a ceiling, by whether there are any
 
-pub ceiling_absent : (cs : List ℕ) (i : ℕ) → length cs ≡ 0 → Absent ≡ ceiling_at cs i
+pub ceiling_absent : (cs : List ℕ) (i : ℕ) → length cs ≡ 0 → None ≡ ceiling_at cs i
 unfolding ceiling_at
 ceiling_absent cs i e = rw (le-ltb 0 (length cs) (omega arith))
 
-pub ceiling_given : (cs : List ℕ) (i : ℕ) → 0 < length cs → At (get_or cs i 0) ≡ ceiling_at cs i
+pub ceiling_given : (cs : List ℕ) (i : ℕ) → 0 < length cs → Some (get_or cs i 0) ≡ ceiling_at cs i
 unfolding ceiling_at
 ceiling_given cs i h = rw (lt-ltb 0 (length cs) h)
 
@@ -95,11 +95,11 @@ line_is name ws cs i s m c e f g = rw (e, f, g)
 -- ---- the writes of each part, one after the other
 
 -- none or two of a ceiling
-pub ceiling_none : {d : List ℕ} {at : ℕ} (c : Ceiling) → c ≡ Absent → Fitting d at (ceiling_field c) d at
+pub ceiling_none : {d : List ℕ} {at : ℕ} (c : Ceiling) → c ≡ None → Fitting d at (ceiling_field c) d at
 unfolding ceiling_field
 ceiling_none {d} {at} c e = rw e (record { wrote = λ h. nothing d at (omega arith) })
 
-pub ceiling_put : {d d₁ d₂ : List ℕ} {at a₁ a₂ : ℕ} (c : Ceiling) (x : ℕ) → c ≡ At x → Put d at (9 ∷ []) d₁ a₁ → Put d₁ a₁ (decimal x) d₂ a₂ → Fitting d at (ceiling_field c) d₂ a₂
+pub ceiling_put : {d d₁ d₂ : List ℕ} {at a₁ a₂ : ℕ} (c : Ceiling) (x : ℕ) → c ≡ Some x → Put d at (9 ∷ []) d₁ a₁ → Put d₁ a₁ (decimal x) d₂ a₂ → Fitting d at (ceiling_field c) d₂ a₂
 unfolding ceiling_field
 ceiling_put c x e p₁ p₂ = rw e (fit_then (fit p₁) p₂)
 

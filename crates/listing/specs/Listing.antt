@@ -1,12 +1,10 @@
 -- Document 01, "Millionths and the job program": the listing of an answer, and the line of a refusal. Document 02, request 10: ceilings. Definitions only.
-use Rattle.std.specs.Prelude.{ℕ, ◌≤◌, ◌≡◌, Bool, not, cond, List, [], ◌∷◌, ◌++◌, leb, ltb, eqb, length, get_or, Float}
+use Rattle.std.specs.Prelude.{ℕ, ◌≤◌, ◌≡◌, Bool, not, cond, List, [], ◌∷◌, ◌++◌, leb, ltb, eqb, length, get_or, Float, Some, Ok, None, Err}
 use Rattle.std.specs.Float.{nan, binary64}
 use Rattle.std.specs.Float.Ieee.{to_bits}
-use Rattle.refusal.specs.Table.{Line, first, and_then}
+use Rattle.refusal.specs.Table.{Line, first, and_then, Outcome}
 use Rattle.refusal.specs.Telling.{Telling, accepts, refuses, tells}
 use Rattle.refusal.specs.declared.Refusal.TheVariants.{DimensionMismatch, OverLimit, ShortBuffer, NoTree, MalformedText}
-use Rattle.refusal.specs.declared.Outcome.{Outcome}
-use Rattle.refusal.specs.declared.Outcome.TheVariants as outcome
 use Rattle.lent.specs.Lent.{most_assets, laid}
 use Rattle.text.specs.Bytes.{bytes}
 use Rattle.fields.specs.Split.{newline, tabulator, all}
@@ -15,17 +13,14 @@ use Rattle.ceilings.specs.Figures.{are_given, are_unlike, figures_in, figures_li
 use Rattle.tree.specs.Rows.{is_order}
 use Rattle.names.specs.Names.{name_from}
 use Rattle.reading.specs.Reading.{most_bytes}
-use Rattle.listing.specs.declared.Ceiling.{Ceiling}
-use Rattle.listing.specs.declared.Ceiling.TheVariants as ceiling
 use Rattle.listing.specs.declared.Holding.{Holding}
-use Rattle.listing.specs.declared.Listed.{Listed}
-use Rattle.listing.specs.declared.Listed.TheVariants as listed
+use Rattle.listing.specs.Outcomes.{Ceiling, Listed}
 
 -- ---- "Each asset's record gains a ceiling in millionths": the record is the asset's name and its holding, for the listing and for all that reads it
 
 -- asset i's ceiling
 unfoldable pub ceiling_at : List ℕ → ℕ → Ceiling
-ceiling_at cs i = cond (are_given cs) (ceiling.At (get_or cs i 0)) ceiling.Absent
+ceiling_at cs i = cond (are_given cs) (Some (get_or cs i 0)) None
 
 -- asset i's holding, by the weights and the ceilings
 unfoldable pub holding_at : List Float → List ℕ → ℕ → Holding
@@ -35,8 +30,8 @@ holding_at ws cs i = record { weight = get_or ws i nan; millionths = get_or (fig
 -- "the listing, where ceilings are given, shows it as a fourth field"
 unfoldable pub ceiling_field : Ceiling → List ℕ
 unfolding decimal
-ceiling_field ceiling.Absent = []
-ceiling_field (ceiling.At c) = (tabulator ∷ []) ++ decimal c
+ceiling_field None = []
+ceiling_field (Some c) = (tabulator ∷ []) ++ decimal c
 
 -- "prints name, weight bits, millionths": "An answer that is NaN has the bits 7ff8000000000000". The weight is the one before ceilings, the millionths those after them
 unfoldable pub holding_line : List ℕ → Holding → List ℕ
@@ -67,18 +62,18 @@ refusal_line k = bytes "refused" ++ (tabulator ∷ []) ++ decimal k ++ (newline 
 -- ---- what a call answers that writes bytes into a lent buffer: how many, or the refusal
 
 unfoldable pub listed_as : Outcome → ℕ → Listed
-listed_as outcome.Done bytes = listed.Sheet bytes
-listed_as (outcome.Refused r) bytes = listed.Refused r
+listed_as (Ok _) bytes = Ok bytes
+listed_as (Err r) bytes = Err r
 
 -- a refusal has no bytes
 abbrev pub bytes_in : Listed → ℕ
-bytes_in (listed.Sheet bytes) = bytes
-bytes_in (listed.Refused r) = 0
+bytes_in (Ok bytes) = bytes
+bytes_in (Err r) = 0
 
 -- what the answer tells: 0 and how many bytes, or the refusal's number
 abbrev pub listed_tells : Listed → Telling ℕ
-listed_tells (listed.Sheet bytes) = accepts bytes
-listed_tells (listed.Refused r) = refuses r
+listed_tells (Ok bytes) = accepts bytes
+listed_tells (Err r) = refuses r
 
 -- such a call, which would write s, by how it went: s at the front of the buffer and zeros after it; "leaves every lent answer .. entry zero" where it is refused
 pub record ListingMade (o : Outcome) (s : List ℕ) (room : ℕ) (r : Listed) (out : List ℕ) : Type 0 where

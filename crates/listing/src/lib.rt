@@ -10,33 +10,16 @@ ghost use Rattle.listing.specs.Listing.{ceiling_at, ceiling_field, holding_line,
 ghost use Rattle.listing.specs.Listing.{bytes_in, ListingMade, name_in, is_short, sheet_lines, sheet_outcome, refusal_outcome};
 ghost use Rattle.listing.specs.Inner.{Named, Parted, Listable};
 
-use refusal::{Outcome, Refusal};
+use refusal::Refusal;
 
 // 8,192 bytes hold every listing.
 pub const LEAST_LISTING: usize = 8192;
 
-// How many bytes were written, or why none were.
-#[derive(Clone, Copy)]
-pub enum Listed {
-    Sheet(usize),
-    Refused(Refusal),
-}
-
 // How many bytes were written.
-pub fn bytes(listed: Listed) -> usize
+pub fn bytes(listed: Result<usize, Refusal>) -> usize
     ensures { result ≡ bytes_in listed }
 {
-    match listed {
-        Listed::Sheet(k) => k,
-        Listed::Refused(_) => 0,
-    }
-}
-
-// A ceiling, where the assets have them.
-#[derive(Clone, Copy)]
-pub enum Ceiling {
-    Absent,
-    At(usize),
+    listed.unwrap_or(0)
 }
 
 // What an asset's record has beside its name.
@@ -44,20 +27,18 @@ pub enum Ceiling {
 pub struct Holding {
     pub weight: f64,
     pub millionths: usize,
-    pub ceiling: Ceiling,
+    pub ceiling: Option<usize>,
 }
 
 // A tab and a ceiling, where there is one.
-fn put_ceiling(out: &mut [u8], at: usize, ceiling: Ceiling) -> usize
+fn put_ceiling(out: &mut [u8], at: usize, ceiling: Option<usize>) -> usize
     ensures { Fitting out.old at (ceiling_field ceiling) out.new result }
 {
-    match ceiling {
-        Ceiling::Absent => at,
-        Ceiling::At(c) => {
-            let tabbed = writing::put_byte(out, at, b'\t');
-            writing::put_decimal(out, tabbed, c as u64)
-        }
-    }
+    let Some(c) = ceiling else {
+        return at;
+    };
+    let tabbed = writing::put_byte(out, at, b'\t');
+    writing::put_decimal(out, tabbed, c as u64)
 }
 
 // An asset's line: name, weight bits, millionths, and its ceiling.
@@ -77,14 +58,15 @@ fn put_asset(out: &mut [u8], at: usize, name: &[u8], holding: Holding) -> usize
 }
 
 // Asset i's ceiling.
-fn ceiling_at(ceilings: &[usize], i: usize) -> Ceiling
+#[tactic(auto, using(crate::proofs::Lines::ceiling_absent, crate::proofs::Lines::ceiling_given))]
+fn ceiling_at(ceilings: &[usize], i: usize) -> Option<usize>
     requires { 0 < length ceilings.now → i < length ceilings.now }
     ensures { result ≡ ceiling_at ceilings.now i }
 {
-    if ceilings.len() == 0 {
-        return Ceiling::Absent;
+    if ceilings.is_empty() {
+        return None;
     }
-    Ceiling::At(ceilings[i])
+    Some(ceilings[i])
 }
 
 // A line for each weight, from the start of the buffer on.
@@ -104,25 +86,15 @@ fn put_assets(
     ensures { Wrote out.old 0 (joined (length weights.now) (line_of (name_in text.now starts.now) weights.now ceilings.now)) out.new result }
 {
     let mut at = 0;
-    let mut i = 0;
-    while i < weights.len() {
+    for (i, weight) in weights.iter().enumerate() {
         let holding = Holding {
-            weight: weights[i],
+            weight: *weight,
             millionths: parts[i],
             ceiling: ceiling_at(ceilings, i),
         };
         at = put_asset(out, at, names::name(text, starts[i]), holding);
-        i += 1;
     }
     at
-}
-
-// The asset at place k of the leaf order.
-fn asset_at(order: &[usize], k: usize) -> usize
-    requires { k < length order.now }
-    ensures { result ≡ get_or order.now k 0 }
-{
-    order[k]
 }
 
 // The names in the leaf order, each after a tab.
@@ -133,11 +105,9 @@ fn put_order(text: &[u8], starts: &[usize], order: &[usize], out: &mut [u8], fro
     ensures { Wrote out.old from (joined (length order.now) (ordered (name_in text.now starts.now) order.now)) out.new result }
 {
     let mut at = from;
-    let mut k = 0;
-    while k < order.len() {
+    for k in 0..order.len() {
         let tabbed = writing::put_byte(out, at, b'\t');
-        at = writing::put_bytes(out, tabbed, names::name(text, starts[asset_at(order, k)]));
-        k += 1;
+        at = writing::put_bytes(out, tabbed, names::name(text, starts[order[k]]));
     }
     at
 }
@@ -165,17 +135,13 @@ fn put_listing(
 pub fn all_short(text: &[u8], starts: &[usize]) -> bool
     ensures { result ≡ all (is_short text.now) starts.now }
 {
-    let mut i = 0;
-    while i < starts.len() {
-        if 16 < names::name(text, starts[i]).len() {
-            return false;
-        }
-        i += 1;
-    }
-    true
+    starts
+        .iter()
+        .all(|start| names::name(text, *start).len() <= 16)
 }
 
 // 9, 11, 3, 14 and 15 of a listing.
+#[tactic(auto, unfolding(crate::specs::Listing::sheet_lines, refusal::specs::Table::first, refusal::specs::Table::or_else))]
 fn judge(
     text: &[u8],
     starts: &[usize],
@@ -183,25 +149,20 @@ fn judge(
     ceilings: &[usize],
     order: &[usize],
     room: usize,
-) -> Outcome
+) -> Result<(), Refusal>
     ensures { result ≡ first (sheet_lines text.now starts.now weights ceilings.now order.now room) }
 {
     let n = starts.len();
-    let o = refusal::refuse(
-        !all_short(text, starts),
-        Refusal::MalformedText,
-        Outcome::Done,
-    );
-    let o = refusal::refuse(!tree::is_order(order, n), Refusal::NoTree, o);
-    let o = refusal::refuse(
+    refusal::refuse(reading::MOST_BYTES < text.len(), Refusal::OverLimit)?;
+    refusal::refuse(lent::MOST_ASSETS < n, Refusal::OverLimit)?;
+    refusal::refuse(room < LEAST_LISTING, Refusal::ShortBuffer)?;
+    refusal::refuse(weights != n, Refusal::DimensionMismatch)?;
+    refusal::refuse(
         ceilings::are_unlike(ceilings, n),
         Refusal::DimensionMismatch,
-        o,
-    );
-    let o = refusal::refuse(weights != n, Refusal::DimensionMismatch, o);
-    let o = refusal::refuse(room < LEAST_LISTING, Refusal::ShortBuffer, o);
-    let o = refusal::refuse(lent::MOST_ASSETS < n, Refusal::OverLimit, o);
-    refusal::refuse(reading::MOST_BYTES < text.len(), Refusal::OverLimit, o)
+    )?;
+    refusal::refuse(!tree::is_order(order, n), Refusal::NoTree)?;
+    refusal::refuse(!all_short(text, starts), Refusal::MalformedText)
 }
 
 // The listing of the assets whose names begin at `starts`, with ceilings or with none, at the front of out. A refused listing leaves zeros.
@@ -212,7 +173,7 @@ pub fn sheet(
     ceilings: &[usize],
     order: &[usize],
     out: &mut [u8],
-) -> Listed
+) -> Result<usize, Refusal>
     ensures { ListingMade
         (sheet_outcome text.now starts.now weights.now ceilings.now order.now (length out.old))
         (listing (name_in text.now starts.now) weights.now ceilings.now order.now)
@@ -222,13 +183,9 @@ pub fn sheet(
     let parted = ceilings::figures(weights, ceilings, &mut parts);
     let judged = judge(text, starts, weights.len(), ceilings, order, out.len());
     let said = refusal::and_then(judged, parted);
-    lent::clear_bytes_from(out, 0);
-    match said {
-        Outcome::Done => Listed::Sheet(put_listing(
-            text, starts, weights, ceilings, &parts, order, out,
-        )),
-        Outcome::Refused(r) => Listed::Refused(r),
-    }
+    lent::clear(out);
+    said?;
+    Ok(put_listing(text, starts, weights, ceilings, &parts, order, out))
 }
 
 // The line of a number, from the start of the buffer on; the answer is its length.
@@ -242,14 +199,12 @@ fn put_refusal(number: u64, out: &mut [u8]) -> usize
 }
 
 // The line of a refusal's number, at the front of a buffer: `refused`, tab, number, newline.
-pub fn refusal_line(number: u8, line: &mut [u8]) -> Listed
+pub fn refusal_line(number: u8, line: &mut [u8]) -> Result<usize, Refusal>
     ensures { ListingMade
         (refusal_outcome number (length line.old)) (refusal_line number) (length line.old) result line.new }
 {
     let k = writing::places(number as u64);
-    lent::clear_bytes_from(line, 0);
-    if line.len() < k + 9 {
-        return Listed::Refused(Refusal::ShortBuffer);
-    }
-    Listed::Sheet(put_refusal(number as u64, line))
+    lent::clear(line);
+    refusal::refuse(line.len() < k + 9, Refusal::ShortBuffer)?;
+    Ok(put_refusal(number as u64, line))
 }

@@ -20,12 +20,10 @@ use Rattle.tails.specs.Tail.{gain, row_return, tail_sum, tail_count, mean, short
 use Rattle.tails.specs.Measures.{measure_size_lines, measure_shape_lines, measure_outcome, shortfall_answer, drawdown_answer}
 use Rattle.metrics.specs.declared.Metric.{Metric}
 use Rattle.metrics.specs.declared.Metric.TheVariants.{MinimumVariance, MinimumStandardDeviation, SharpeRatio, EqualWeighting, ExpectedShortfall, ConditionalDrawdownRisk}
-use Rattle.metrics.specs.declared.NamedMetric.{NamedMetric}
-use Rattle.metrics.specs.declared.NamedMetric.TheVariants as metric
-use Rattle.metrics.specs.declared.Splitting.{Splitting}
-use Rattle.metrics.specs.declared.Splitting.TheVariants as splitting
 use Rattle.metrics.specs.Names.{metric_named}
 use Rattle.metrics.specs.Split.{Inputs, bounded, split_by, by_risk, fair, by_ratio, scored_answer, split_answer}
+use Rattle.std.specs.Prelude.{Ok, Err}
+use Rattle.metrics.specs.Outcomes.{NamedMetric, Splitting}
 
 abbrev all : List Bool → Bool
 all [] = true
@@ -33,8 +31,8 @@ all (b ∷ bs) = b && all bs
 
 -- the refusal's number and values, or 0 and the bits of the left risk, the right risk and the left factor
 abbrev told_of : Splitting → List ℕ
-told_of (splitting.By s) = 0 ∷ map (to_bits binary64) (s.left ∷ s.right ∷ s.factor ∷ [])
-told_of (splitting.Refused r) = number_of r ∷ values_of r
+told_of (Ok s) = 0 ∷ map (to_bits binary64) (s.left ∷ s.right ∷ s.factor ∷ [])
+told_of (Err r) = number_of r ∷ values_of r
 
 -- the bits of 0, 1, 0.5, 0.25, 0.75, 3, 9, −1, −3, 2^-60, infinity and NaN
 abbrev p0 : ℕ
@@ -97,13 +95,13 @@ two_rows = minus_three ∷ minus ∷ one ∷ minus ∷ []
 
 -- 1 to 6 for the metrics, in the order of the source's names; or 0 and the refusal's number
 abbrev named : NamedMetric → List ℕ
-named (metric.Of MinimumVariance) = 1 ∷ []
-named (metric.Of MinimumStandardDeviation) = 2 ∷ []
-named (metric.Of SharpeRatio) = 3 ∷ []
-named (metric.Of EqualWeighting) = 4 ∷ []
-named (metric.Of ExpectedShortfall) = 5 ∷ []
-named (metric.Of ConditionalDrawdownRisk) = 6 ∷ []
-named (metric.Refused r) = 0 ∷ number_of r ∷ []
+named (Ok MinimumVariance) = 1 ∷ []
+named (Ok MinimumStandardDeviation) = 2 ∷ []
+named (Ok SharpeRatio) = 3 ∷ []
+named (Ok EqualWeighting) = 4 ∷ []
+named (Ok ExpectedShortfall) = 5 ∷ []
+named (Ok ConditionalDrawdownRisk) = 6 ∷ []
+named (Err r) = 0 ∷ number_of r ∷ []
 
 abbrev figure_list : List Bool
 figure_list =

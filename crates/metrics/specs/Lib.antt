@@ -1,3 +1,4 @@
+pub mod Outcomes
 pub mod Names
 pub mod Split
 pub mod Inner

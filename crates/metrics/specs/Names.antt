@@ -1,28 +1,27 @@
 -- Document 01, refusal 2, and document 02, request 1: the names of metrics, and what a metric reads. Definitions only.
-use Rattle.std.specs.Prelude.{ℕ, Bool, true, false, cond, List}
+use Rattle.std.specs.Prelude.{ℕ, Bool, true, false, cond, List, Ok, Err}
 use Rattle.text.specs.Bytes.{bytes, same}
 use Rattle.refusal.specs.Telling.{Telling, accepts, refuses}
 use Rattle.refusal.specs.declared.Refusal.TheVariants.{UnknownAllocationMetric}
 use Rattle.metrics.specs.declared.Metric.{Metric}
 use Rattle.metrics.specs.declared.Metric.TheVariants.{MinimumVariance, MinimumStandardDeviation, SharpeRatio, EqualWeighting, ExpectedShortfall, ConditionalDrawdownRisk}
-use Rattle.metrics.specs.declared.NamedMetric.{NamedMetric}
-use Rattle.metrics.specs.declared.NamedMetric.TheVariants as metric
+use Rattle.metrics.specs.Outcomes.{NamedMetric}
 
 -- "metric is none of the source's six names (case matters)" (2)
 unfoldable pub metric_named : List ℕ → NamedMetric
 metric_named name =
-    cond (same name (bytes "minimum_variance")) (metric.Of MinimumVariance)
-    (cond (same name (bytes "minimum_standard_deviation")) (metric.Of MinimumStandardDeviation)
-    (cond (same name (bytes "sharpe_ratio")) (metric.Of SharpeRatio)
-    (cond (same name (bytes "equal_weighting")) (metric.Of EqualWeighting)
-    (cond (same name (bytes "expected_shortfall")) (metric.Of ExpectedShortfall)
-    (cond (same name (bytes "conditional_drawdown_risk")) (metric.Of ConditionalDrawdownRisk)
-    (metric.Refused UnknownAllocationMetric))))))
+    cond (same name (bytes "minimum_variance")) (Ok MinimumVariance)
+    (cond (same name (bytes "minimum_standard_deviation")) (Ok MinimumStandardDeviation)
+    (cond (same name (bytes "sharpe_ratio")) (Ok SharpeRatio)
+    (cond (same name (bytes "equal_weighting")) (Ok EqualWeighting)
+    (cond (same name (bytes "expected_shortfall")) (Ok ExpectedShortfall)
+    (cond (same name (bytes "conditional_drawdown_risk")) (Ok ConditionalDrawdownRisk)
+    (Err UnknownAllocationMetric))))))
 
 -- 0 and the metric, or the refusal's number and values
 abbrev pub named_metric_tells : NamedMetric → Telling Metric
-named_metric_tells (metric.Of m) = accepts m
-named_metric_tells (metric.Refused r) = refuses r
+named_metric_tells (Ok m) = accepts m
+named_metric_tells (Err r) = refuses r
 
 -- the metric that reads expected returns
 unfoldable pub is_sharpe : Metric → Bool

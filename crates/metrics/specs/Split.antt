@@ -1,5 +1,5 @@
 -- Document 01, "Sharing out", and document 02, request 1: the factor of a split. Definitions only.
-use Rattle.std.specs.Prelude.{ℕ, Bool, true, false, cond, ◌&&◌, List, Float}
+use Rattle.std.specs.Prelude.{ℕ, Bool, true, false, cond, ◌&&◌, List, Float, Ok, Err}
 use Rattle.std.specs.Float.{binary64}
 use Rattle.std.specs.Float.Ieee.{add, div, lt, le}
 use Rattle.arithmetic.specs.Constants.{pz, unit, half}
@@ -10,13 +10,11 @@ use Rattle.clusters.specs.Clusters.{variance_answer, expectation, ratio, sharpe_
 use Rattle.clusters.specs.Shares.{factor_of}
 use Rattle.tails.specs.Tail.{shortfall_of, drawdown_of}
 use Rattle.tails.specs.Measures.{MeasureCall, shortfall_answer, drawdown_answer}
-use Rattle.clusters.specs.declared.Risk.{Risk}
-use Rattle.clusters.specs.declared.Risk.TheVariants as risk
 use Rattle.metrics.specs.declared.Metric.{Metric}
 use Rattle.metrics.specs.declared.Metric.TheVariants.{MinimumVariance, MinimumStandardDeviation, SharpeRatio, EqualWeighting, ExpectedShortfall, ConditionalDrawdownRisk}
 use Rattle.metrics.specs.declared.Split.{Split}
-use Rattle.metrics.specs.declared.Splitting.{Splitting}
-use Rattle.metrics.specs.declared.Splitting.TheVariants as splitting
+use Rattle.clusters.specs.Outcomes.{Risk}
+use Rattle.metrics.specs.Outcomes.{Splitting}
 
 -- "A non-finite factor is 0.5; others clamp to 0..1."
 unfoldable pub bounded : Float → Float
@@ -77,13 +75,13 @@ scored metric x cov n a b l r = split_read metric l r (read_of_side metric x cov
 
 -- go on with two risks, where there are both
 abbrev pub with_risks : Risk → Risk → (Float → Float → Splitting) → Splitting
-with_risks (risk.Refused k) w f = splitting.Refused k
-with_risks (risk.Of x) (risk.Refused k) f = splitting.Refused k
-with_risks (risk.Of x) (risk.Of y) f = f x y
+with_risks (Err k) w f = Err k
+with_risks (Ok x) (Err k) f = Err k
+with_risks (Ok x) (Ok y) f = f x y
 
 -- "after both variances have been worked out", whatever the metric: a side that has none refuses
 abbrev pub split_of_both : Risk → Risk → (Float → Float → Split) → Splitting
-split_of_both v w f = with_risks v w (λ x y. splitting.By (f x y))
+split_of_both v w f = with_risks v w (λ x y. Ok (f x y))
 
 unfoldable pub split_of : Metric → Inputs → List Float → ℕ → List ℕ → List ℕ → Splitting
 unfolding scored
@@ -91,8 +89,8 @@ split_of metric x cov n a b = split_of_both (variance_answer cov n n a) (varianc
 
 -- 0 and the split, or the refusal's number and values
 abbrev pub splitting_tells : Splitting → Telling Split
-splitting_tells (splitting.By s) = accepts s
-splitting_tells (splitting.Refused r) = refuses r
+splitting_tells (Ok s) = accepts s
+splitting_tells (Err r) = refuses r
 
 -- ---- the call
 
@@ -112,10 +110,10 @@ side_call x cov n room side = record {
 
 -- what a metric reads of a side, as the call of its measure answers it, which is lent `room` doubles for the series
 abbrev pub read_answer : Metric → Inputs → List Float → ℕ → ℕ → List ℕ → Float → Risk
-read_answer MinimumVariance x cov n room side v = risk.Of v
-read_answer MinimumStandardDeviation x cov n room side v = risk.Of (root v)
+read_answer MinimumVariance x cov n room side v = Ok v
+read_answer MinimumStandardDeviation x cov n room side v = Ok (root v)
 read_answer SharpeRatio x cov n room side v = sharpe_answer x.expected cov n n side
-read_answer EqualWeighting x cov n room side v = risk.Of v
+read_answer EqualWeighting x cov n room side v = Ok v
 read_answer ExpectedShortfall x cov n room side v = shortfall_answer (side_call x cov n room side)
 read_answer ConditionalDrawdownRisk x cov n room side v = drawdown_answer (side_call x cov n room side)
 

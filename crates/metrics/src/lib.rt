@@ -5,10 +5,9 @@ ghost use Rattle.std.specs.Prelude.{◌≡◌, length};
 ghost use Rattle.arithmetic.specs.Root.{root};
 ghost use Rattle.lent.specs.Grid.{zeros};
 ghost use Rattle.metrics.specs.Names.{metric_named, is_sharpe, is_tail_risk};
-ghost use Rattle.metrics.specs.Split.{bounded, split_by, by_risk, by_ratio, split_of_both, scored_answer, split_answer};
+ghost use Rattle.metrics.specs.Split.{bounded, split_by, by_risk, by_ratio, scored_answer, split_answer};
 ghost use Rattle.metrics.specs.Inner.{inputs};
 
-use clusters::Risk;
 use refusal::Refusal;
 
 // How a node's weight is shared between its two children.
@@ -30,72 +29,52 @@ pub struct Split {
     pub factor: f64,
 }
 
-// A split, or the refusal of a side.
-#[derive(Clone, Copy)]
-pub enum Splitting {
-    By(Split),
-    Refused(Refusal),
-}
-
-#[derive(Clone, Copy)]
-pub enum NamedMetric {
-    Of(Metric),
-    Refused(Refusal),
-}
-
 const EPSILON: f64 = 2.220446049250313e-16;
 
-pub fn metric_named(name: &[u8]) -> NamedMetric
+#[tactic(auto, unfolding(crate::specs::Names::metric_named))]
+pub fn metric_named(name: &[u8]) -> Result<Metric, Refusal>
     ensures { result ≡ metric_named name.now }
 {
     if text::same(name, b"minimum_variance") {
-        return NamedMetric::Of(Metric::MinimumVariance);
+        return Ok(Metric::MinimumVariance);
     }
     if text::same(name, b"minimum_standard_deviation") {
-        return NamedMetric::Of(Metric::MinimumStandardDeviation);
+        return Ok(Metric::MinimumStandardDeviation);
     }
     if text::same(name, b"sharpe_ratio") {
-        return NamedMetric::Of(Metric::SharpeRatio);
+        return Ok(Metric::SharpeRatio);
     }
     if text::same(name, b"equal_weighting") {
-        return NamedMetric::Of(Metric::EqualWeighting);
+        return Ok(Metric::EqualWeighting);
     }
     if text::same(name, b"expected_shortfall") {
-        return NamedMetric::Of(Metric::ExpectedShortfall);
+        return Ok(Metric::ExpectedShortfall);
     }
     if text::same(name, b"conditional_drawdown_risk") {
-        return NamedMetric::Of(Metric::ConditionalDrawdownRisk);
+        return Ok(Metric::ConditionalDrawdownRisk);
     }
-    NamedMetric::Refused(Refusal::UnknownAllocationMetric)
+    Err(Refusal::UnknownAllocationMetric)
 }
 
+#[tactic(auto, unfolding(crate::specs::Names::is_sharpe))]
 pub fn is_sharpe(metric: Metric) -> bool
     ensures { result ≡ is_sharpe metric }
 {
-    match metric {
-        Metric::MinimumVariance => false,
-        Metric::MinimumStandardDeviation => false,
-        Metric::SharpeRatio => true,
-        Metric::EqualWeighting => false,
-        Metric::ExpectedShortfall => false,
-        Metric::ConditionalDrawdownRisk => false,
-    }
+    matches!(metric, Metric::SharpeRatio)
 }
 
+#[tactic(auto, unfolding(crate::specs::Names::is_tail_risk))]
 pub fn is_tail_risk(metric: Metric) -> bool
     ensures { result ≡ is_tail_risk metric }
 {
-    match metric {
-        Metric::MinimumVariance => false,
-        Metric::MinimumStandardDeviation => false,
-        Metric::SharpeRatio => false,
-        Metric::EqualWeighting => false,
-        Metric::ExpectedShortfall => true,
-        Metric::ConditionalDrawdownRisk => true,
-    }
+    matches!(
+        metric,
+        Metric::ExpectedShortfall | Metric::ConditionalDrawdownRisk
+    )
 }
 
 // A factor that is not finite is a half.
+#[tactic(auto, unfolding(crate::specs::Split::bounded))]
 fn bounded(f: f64) -> f64
     ensures { result ≡ bounded f }
 {
@@ -106,6 +85,7 @@ fn bounded(f: f64) -> f64
     }
 }
 
+#[tactic(auto, unfolding(crate::specs::Split::split_by))]
 fn split_by(left: f64, right: f64, f: f64) -> Split
     ensures { result ≡ split_by left right f }
 {
@@ -117,6 +97,7 @@ fn split_by(left: f64, right: f64, f: f64) -> Split
     }
 }
 
+#[tactic(auto, unfolding(crate::specs::Split::by_risk, clusters::specs::Shares::factor_of))]
 fn by_risk(l: f64, r: f64) -> Split
     ensures { result ≡ by_risk l r }
 {
@@ -131,6 +112,7 @@ fn deviation(v: f64) -> f64
 }
 
 // s and t are the ratios, l and r the variances.
+#[tactic(auto, unfolding(crate::specs::Split::by_ratio, crate::specs::Split::fair))]
 fn by_ratio(s: f64, t: f64, l: f64, r: f64) -> Split
     ensures { result ≡ by_ratio s t l r }
 {
@@ -141,33 +123,8 @@ fn by_ratio(s: f64, t: f64, l: f64, r: f64) -> Split
     by_risk(l, r)
 }
 
-// By two risks, where neither was refused.
-fn by_risks(s: Risk, t: Risk) -> Splitting
-    ensures { result ≡ split_of_both s t by_risk }
-{
-    match s {
-        Risk::Refused(k) => Splitting::Refused(k),
-        Risk::Of(x) => match t {
-            Risk::Refused(k) => Splitting::Refused(k),
-            Risk::Of(y) => Splitting::By(by_risk(x, y)),
-        },
-    }
-}
-
-// By two ratios, where neither was refused; l and r are the variances.
-fn by_ratios(s: Risk, t: Risk, l: f64, r: f64) -> Splitting
-    ensures { result ≡ split_of_both s t (λ x y. by_ratio x y l r) }
-{
-    match s {
-        Risk::Refused(k) => Splitting::Refused(k),
-        Risk::Of(x) => match t {
-            Risk::Refused(k) => Splitting::Refused(k),
-            Risk::Of(y) => Splitting::By(by_ratio(x, y, l, r)),
-        },
-    }
-}
-
 // The split of two sides whose variances are l and r.
+#[tactic(auto, unfolding(crate::specs::Split::scored_answer))]
 fn score(
     metric: Metric,
     expected: &[f64],
@@ -181,21 +138,21 @@ fn score(
     l: f64,
     r: f64,
     scratch: &mut [f64],
-) -> Splitting
+) -> Result<Split, Refusal>
     requires { scratch.old ≡ zeros (length scratch.old) }
     ensures value { result ≡ scored_answer metric (inputs expected.now returns.now return_rows confidence)
         cov.now n left.now right.now (length scratch.old) l r }
     ensures scratch_after { scratch.new ≡ zeros (length scratch.old) }
 {
     match metric {
-        Metric::MinimumVariance => Splitting::By(by_risk(l, r)),
-        Metric::MinimumStandardDeviation => Splitting::By(by_risk(deviation(l), deviation(r))),
+        Metric::MinimumVariance => Ok(by_risk(l, r)),
+        Metric::MinimumStandardDeviation => Ok(by_risk(deviation(l), deviation(r))),
         Metric::SharpeRatio => {
-            let s = clusters::cluster_sharpe(expected, cov, n, n, left);
-            let t = clusters::cluster_sharpe(expected, cov, n, n, right);
-            by_ratios(s, t, l, r)
+            let s = clusters::cluster_sharpe(expected, cov, n, n, left)?;
+            let t = clusters::cluster_sharpe(expected, cov, n, n, right)?;
+            Ok(by_ratio(s, t, l, r))
         }
-        Metric::EqualWeighting => Splitting::By(split_by(l, r, 0.5)),
+        Metric::EqualWeighting => Ok(split_by(l, r, 0.5)),
         Metric::ExpectedShortfall => {
             let s = tails::cluster_expected_shortfall(
                 returns,
@@ -207,7 +164,7 @@ fn score(
                 left,
                 confidence,
                 scratch,
-            );
+            )?;
             let t = tails::cluster_expected_shortfall(
                 returns,
                 return_rows,
@@ -218,8 +175,8 @@ fn score(
                 right,
                 confidence,
                 scratch,
-            );
-            by_risks(s, t)
+            )?;
+            Ok(by_risk(s, t))
         }
         Metric::ConditionalDrawdownRisk => {
             let s = tails::cluster_conditional_drawdown(
@@ -232,7 +189,7 @@ fn score(
                 left,
                 confidence,
                 scratch,
-            );
+            )?;
             let t = tails::cluster_conditional_drawdown(
                 returns,
                 return_rows,
@@ -243,8 +200,8 @@ fn score(
                 right,
                 confidence,
                 scratch,
-            );
-            by_risks(s, t)
+            )?;
+            Ok(by_risk(s, t))
         }
     }
 }
@@ -261,35 +218,27 @@ pub fn split_factor(
     left: &[usize],
     right: &[usize],
     scratch: &mut [f64],
-) -> Splitting
+) -> Result<Split, Refusal>
     ensures value { result ≡ split_answer metric
         (record { expected = expected.now; returns = returns.now; return_rows = return_rows; confidence = confidence })
         cov.now n left.now right.now (length scratch.old) }
     ensures scratch_after { scratch.new ≡ zeros (length scratch.old) }
 {
     lent::clear(scratch);
-    let a = clusters::cluster_variance(cov, n, n, left);
-    let b = clusters::cluster_variance(cov, n, n, right);
-    match a {
-        Risk::Refused(of_left) => Splitting::Refused(of_left),
-        Risk::Of(l) => match b {
-            Risk::Refused(of_right) => Splitting::Refused(of_right),
-            Risk::Of(r) => {
-                score(
-                    metric,
-                    expected,
-                    returns,
-                    return_rows,
-                    confidence,
-                    cov,
-                    n,
-                    left,
-                    right,
-                    l,
-                    r,
-                    scratch,
-                )
-            }
-        },
-    }
+    let l = clusters::cluster_variance(cov, n, n, left)?;
+    let r = clusters::cluster_variance(cov, n, n, right)?;
+    score(
+        metric,
+        expected,
+        returns,
+        return_rows,
+        confidence,
+        cov,
+        n,
+        left,
+        right,
+        l,
+        r,
+        scratch,
+    )
 }

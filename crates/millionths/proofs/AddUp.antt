@@ -10,7 +10,6 @@ use lib.Dec.{ltb}
 use lib.Ieee.{Float}
 use lib.ListN.{length, get_or}
 use Rattle.refusal.specs.Table.{first}
-use Rattle.refusal.specs.declared.Outcome.TheVariants.{Done}
 use Rattle.refusal.proofs.Tables.{none}
 use Rattle.lent.proofs.Sums.{no_or}
 use Rattle.lent.specs.Count.{one, upto}
@@ -22,6 +21,7 @@ use Rattle.fractions.proofs.Order.{sooner_is, is_sooner, not_both, irreflexive, 
 use Rattle.millionths.specs.Meaning.{total_of, Serves}
 use Rattle.millionths.specs.Millionths.{whole_total, missing, millionths_at, millionths_in, out_of_reach, millionths_lines, millionths_outcome}
 use Rattle.millionths.proofs.Lists.{accepted}
+use Rattle.std.specs.Prelude.{Ok}
 
 module _ (ws : List Float) where
   abbrev rank : ℕ → ℕ
@@ -130,11 +130,11 @@ module _ (ws : List Float) where
         rw (le-ltb 1000000 (whole_total ws) (omega arith), le-ltb (length ws) (missing ws) (omega arith))
 
 -- the list of weights that neither 13 nor 18 refuses does what request 3 asks; so does that of every accepted call
-pub adds_up : (ws : List Float) → first (millionths_lines ws) ≡ Done → Serves ws (millionths_in ws)
+pub adds_up : (ws : List Float) → first (millionths_lines ws) ≡ Ok tt → Serves ws (millionths_in ws)
 unfolding millionths_lines out_of_reach
 adds_up ws d =
     let t = no_or _ _ (none (millionths_lines ws) d).1.0 in
     served ws (ltb-false 1000000 (whole_total ws) t.0) (ltb-false (length ws) (missing ws) t.1)
 
-pub call_adds_up : (ws : List Float) (room : ℕ) → millionths_outcome ws room ≡ Done → Serves ws (millionths_in ws)
+pub call_adds_up : (ws : List Float) (room : ℕ) → millionths_outcome ws room ≡ Ok tt → Serves ws (millionths_in ws)
 call_adds_up ws room d = let a = accepted ws room d in served ws a.under a.near

@@ -11,11 +11,9 @@ use lib.Dec.{ltb}
 use lib.Ieee.{Float}
 use lib.ListN.{length, get_or, get_or-replicate, get_or-append}
 use lib.Seq.{get_or-append-add}
-use Rattle.refusal.specs.Table.{first, or_else, and_then}
+use Rattle.refusal.specs.Table.{first, or_else, and_then, Outcome}
 use Rattle.refusal.specs.declared.Refusal.{Refusal}
 use Rattle.refusal.specs.declared.Refusal.TheVariants.{OverLimit, ShortBuffer, WeightOutOfRange, TotalOutOfReach}
-use Rattle.refusal.specs.declared.Outcome.{Outcome}
-use Rattle.refusal.specs.declared.Outcome.TheVariants.{Done, Refused}
 use Rattle.refusal.proofs.Tables.{table, table_end, table_hit, table_pass, none, then_done, then_refused}
 use Rattle.fields.specs.Split.{all}
 use Rattle.lent.specs.Count.{one, upto}
@@ -29,12 +27,7 @@ use Rattle.fractions.specs.Fractions.{in_range, whole_at, left_at, rank_of, whol
 use Rattle.fractions.proofs.Meaning.{whole_most}
 use Rattle.millionths.specs.Millionths.{whole_total, missing, millionths_at, millionths_in, out_of_reach, millionths_lines, millionths_table, millionths_outcome, millionths_laid}
 use Rattle.millionths.specs.Inner.{Wholes, judged, Served}
-
--- what the stages of `judge` say together
-pub judged_by : (ranged : Outcome) (total n room l : ℕ) (off : Bool) (reached parted roomy said : Outcome) → l ≡ 1000000 - total → off ≡ (ltb 1000000 total || ltb n l)
-    → reached ≡ or_else off TotalOutOfReach Done → parted ≡ and_then ranged reached → roomy ≡ or_else (ltb room n) ShortBuffer parted → said ≡ or_else (ltb 64 n) OverLimit roomy → said ≡ judged ranged total n room
-unfolding judged
-judged_by ranged total n room l off reached parted roomy said a b d e f g = rw (g, f, e, d, b, a)
+use Rattle.std.specs.Prelude.{Ok, Err}
 
 -- ---- numbers at the front of a buffer, and zeros after them
 
@@ -61,7 +54,7 @@ upto_stop f n (suc m) h z =
 -- ---- weights of which `fractions` refuses none
 
 module _ (ws : List Float) where
-  module _ (d : fractions_outcome ws 64 64 ≡ Done) where
+  module _ (d : fractions_outcome ws 64 64 ≡ Ok tt) where
     few : length ws ≤ 64
     unfolding fractions_outcome fractions_table
     few = ltb-false 64 (length ws) (none (fractions_table ws 64 64) d).0
@@ -99,18 +92,18 @@ module _ (ws : List Float) where
   small i h = go (fractions_outcome ws 64 64) refl
     where
       go : (o : Outcome) → fractions_outcome ws 64 64 ≡ o → get_or (wholes_laid ws 64 64) i 0 ≤ 1000000
-      go Done d =
+      go (Ok _) d =
           ⊎_elim
           (λ e. let l : i < length ws = ltb-true i (length ws) e in le_trans (le_of_eq (whole_at_lem d i l)) (whole_most ws (ranged d) i l))
           (λ e. le_trans (le_of_eq (none_past d i (ltb-false i (length ws) e) h)) (omega arith))
           (either (ltb i (length ws)))
-      go (Refused r) e = le_trans (le_of_eq (ap (λ (o : Outcome). get_or (laid 0 o 64 (wholes_in ws)) i 0) e ∙ get_or-replicate 64 i 0 0 h)) (omega arith)
+      go (Err r) e = le_trans (le_of_eq (ap (λ (o : Outcome). get_or (laid 0 o 64 (wholes_in ws)) i 0) e ∙ get_or-replicate 64 i 0 0 h)) (omega arith)
 
   module _ (wholes : List ℕ) (w : wholes ≡ wholes_laid ws 64 64) (wide : length wholes ≡ 64) where
     pub wholes_fit : Wholes wholes
     wholes_fit = record { few = omega (arith, wide); small = λ i h. rw w (small i (omega (arith, wide))) }
 
-    total_is : (given : ℕ) → given ≡ upto (λ i. get_or wholes i 0) (length wholes) → fractions_outcome ws 64 64 ≡ Done → given ≡ whole_total ws
+    total_is : (given : ℕ) → given ≡ upto (λ i. get_or wholes i 0) (length wholes) → fractions_outcome ws 64 64 ≡ Ok tt → given ≡ whole_total ws
     unfolding whole_total
     total_is given g d =
         g ∙ ap (upto (λ i. get_or wholes i 0)) wide
@@ -120,20 +113,20 @@ module _ (ws : List Float) where
     -- ---- what is said
 
     module _ (range said : Outcome) (given room : ℕ) (r : range ≡ fractions_outcome ws 64 64) (g : given ≡ upto (λ i. get_or wholes i 0) (length wholes)) (j : said ≡ judged range given (length ws) room) where
-      off_said : ltb 64 (length ws) ≡ false → and_then range (or_else (ltb 1000000 given || ltb (length ws) (1000000 - given)) TotalOutOfReach Done) ≡ first (millionths_lines ws)
+      off_said : ltb 64 (length ws) ≡ false → and_then range (or_else (ltb 1000000 given || ltb (length ws) (1000000 - given)) TotalOutOfReach (Ok tt)) ≡ first (millionths_lines ws)
       unfolding millionths_lines out_of_reach missing
       off_said few =
           ⊎_elim
           (λ e.
-          let d : fractions_outcome ws 64 64 ≡ Done = ranged_said few ∙ table_pass _ WeightOutOfRange [] (ap not e) ∙ table_end in
-          then_done range _ (r ∙ d) ∙ ap (λ (t : ℕ). or_else (ltb 1000000 t || ltb (length ws) (1000000 - t)) TotalOutOfReach Done) (total_is given g d)
+          let d : fractions_outcome ws 64 64 ≡ (Ok tt) = ranged_said few ∙ table_pass _ WeightOutOfRange [] (ap not e) ∙ table_end in
+          then_done range _ (r ∙ d) ∙ ap (λ (t : ℕ). or_else (ltb 1000000 t || ltb (length ws) (1000000 - t)) TotalOutOfReach (Ok tt)) (total_is given g d)
           ∙ sym (table_pass _ WeightOutOfRange _ (ap not e) ∙ table _ TotalOutOfReach [] ∙ ap (or_else (out_of_reach ws) TotalOutOfReach) table_end))
           (λ e.
           then_refused range _ WeightOutOfRange (r ∙ ranged_said few ∙ table_hit _ WeightOutOfRange [] (ap not e)) ∙ sym (table_hit _ WeightOutOfRange _ (ap not e)))
           (either (all in_range ws))
 
       abbrev rest : Outcome
-      rest = or_else (ltb room (length ws)) ShortBuffer (and_then range (or_else (ltb 1000000 given || ltb (length ws) (1000000 - given)) TotalOutOfReach Done))
+      rest = or_else (ltb room (length ws)) ShortBuffer (and_then range (or_else (ltb 1000000 given || ltb (length ws) (1000000 - given)) TotalOutOfReach (Ok tt)))
 
       pub said_is : said ≡ millionths_outcome ws room
       unfolding judged or_else millionths_outcome millionths_table
@@ -154,7 +147,7 @@ pub record Accepted (ws : List Float) (room : ℕ) : Type 0 where
   pub under : whole_total ws ≤ 1000000
   pub near : missing ws ≤ length ws
 
-pub accepted : (ws : List Float) (room : ℕ) → millionths_outcome ws room ≡ Done → Accepted ws room
+pub accepted : (ws : List Float) (room : ℕ) → millionths_outcome ws room ≡ Ok tt → Accepted ws room
 unfolding millionths_outcome millionths_table millionths_lines out_of_reach
 accepted ws room d =
     let a = none (millionths_table ws room) d in
@@ -168,15 +161,15 @@ accepted ws room d =
     }
 
 -- of an accepted list `fractions` refuses nothing
-measured : (ws : List Float) (room : ℕ) → Accepted ws room → fractions_outcome ws 64 64 ≡ Done
+measured : (ws : List Float) (room : ℕ) → Accepted ws room → fractions_outcome ws 64 64 ≡ Ok tt
 measured ws room a = ranged_said ws (le-ltb 64 (length ws) a.few) ∙ table_pass _ WeightOutOfRange [] (ap not a.ranged) ∙ table_end
 
 module _ (ws : List Float) (room : ℕ) (said : Outcome) (e : said ≡ millionths_outcome ws room) where
-  pub ends_refused : (r : Refusal) (out : List ℕ) → said ≡ Refused r → out ≡ noughts room → out ≡ millionths_laid ws room
+  pub ends_refused : (r : Refusal) (out : List ℕ) → said ≡ Err r → out ≡ noughts room → out ≡ millionths_laid ws room
   unfolding millionths_laid
   ends_refused r out h o = o ∙ laid_refused 0 (millionths_outcome ws room) r room (millionths_in ws) (sym e ∙ h)
 
-  module _ (d : said ≡ Done) (wholes ranks : List ℕ) (w : wholes ≡ wholes_laid ws 64 64) (k : ranks ≡ ranks_laid ws 64 64) (wide : length wholes ≡ 64) (deep : length ranks ≡ 64) where
+  module _ (d : said ≡ Ok tt) (wholes ranks : List ℕ) (w : wholes ≡ wholes_laid ws 64 64) (k : ranks ≡ ranks_laid ws 64 64) (wide : length wholes ≡ 64) (deep : length ranks ≡ 64) where
     pub serves : (room' : ℕ) → room' ≡ room → Served wholes ranks (length ws) room'
     serves room' q =
         let a = accepted ws room (sym e ∙ d) in

@@ -1,9 +1,7 @@
 -- What the private functions ask of one another and promise: may be skipped. Definitions only.
-use Rattle.std.specs.Prelude.{ℕ, ◌-◌, ◌≤◌, ◌<◌, ◌||◌, List, ltb, length, get_or}
-use Rattle.refusal.specs.Table.{or_else, and_then}
+use Rattle.std.specs.Prelude.{ℕ, ◌-◌, ◌≤◌, ◌<◌, ◌||◌, List, ltb, length, get_or, Ok}
+use Rattle.refusal.specs.Table.{or_else, and_then, Outcome}
 use Rattle.refusal.specs.declared.Refusal.TheVariants.{OverLimit, ShortBuffer, TotalOutOfReach}
-use Rattle.refusal.specs.declared.Outcome.{Outcome}
-use Rattle.refusal.specs.declared.Outcome.TheVariants.{Done}
 
 -- 64 whole parts, whose total fits
 pub record Wholes (wholes : List ℕ) : Type 0 where
@@ -13,7 +11,7 @@ pub record Wholes (wholes : List ℕ) : Type 0 where
 -- 9, 11, what was said of the weights, 18; by the total of the whole parts of n weights
 unfoldable pub judged : Outcome → ℕ → ℕ → ℕ → Outcome
 judged ranged total n room =
-    or_else (ltb 64 n) OverLimit (or_else (ltb room n) ShortBuffer (and_then ranged (or_else (ltb 1000000 total || ltb n (1000000 - total)) TotalOutOfReach Done)))
+    or_else (ltb 64 n) OverLimit (or_else (ltb room n) ShortBuffer (and_then ranged (or_else (ltb 1000000 total || ltb n (1000000 - total)) TotalOutOfReach (Ok tt))))
 
 -- the whole parts and the ranks of n weights, and room for their millionths
 pub record Served (wholes ranks : List ℕ) (n room : ℕ) : Type 0 where

@@ -1,9 +1,8 @@
 -- Document 02, request 3, "Millionths that add up": "Start from the whole parts, then give one more millionth each to the assets with the largest fractions left over,
 -- the lower asset number first on a tie, until the total is 1,000,000." Definitions only.
 use Rattle.std.specs.Prelude.{ℕ, ◌+◌, ◌-◌, Bool, ◌||◌, List, [], ◌∷◌, ltb, length, Float}
-use Rattle.refusal.specs.Table.{Line, first}
+use Rattle.refusal.specs.Table.{Line, first, Outcome}
 use Rattle.refusal.specs.declared.Refusal.TheVariants.{OverLimit, ShortBuffer, TotalOutOfReach}
-use Rattle.refusal.specs.declared.Outcome.{Outcome}
 use Rattle.lent.specs.Count.{one, upto}
 use Rattle.lent.specs.Grid.{tab}
 use Rattle.lent.specs.Lent.{most_assets, laid}

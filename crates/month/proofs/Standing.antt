@@ -8,7 +8,6 @@ use lib.Dec.{eqb}
 use lib.ListN.{length, length-replicate}
 use lib.Seq.{length-take-le}
 use Rattle.refusal.specs.Table.{first}
-use Rattle.refusal.specs.declared.Outcome.TheVariants.{Done}
 use Rattle.refusal.proofs.Tables.{none}
 use Rattle.lent.specs.Grid.{noughts, over}
 use Rattle.lent.proofs.Laws.{length_over}
@@ -22,9 +21,9 @@ use Rattle.slips.specs.declared.Slip.{Slip}
 use Rattle.slips.specs.declared.Slip.TheVariants as slip
 use Rattle.month.specs.Month.{Books, lot_in, after_held, after_order, after_refused, after_slip, slip_lines, Report, at, refused_by, book_line, line_taken}
 use Rattle.month.specs.Calls.{books_of, standing, tally_of, progress_of, table_left}
-use Rattle.month.specs.declared.Progress.{Progress}
-use Rattle.month.specs.declared.Progress.TheVariants.{At, Refused}
 use Rattle.month.proofs.Totals.{OfBooks, of_done}
+use Rattle.std.specs.Prelude.{Ok, Err}
+use Rattle.month.specs.Outcomes.{Progress}
 
 -- ---- a report that fits its table
 
@@ -32,7 +31,7 @@ use Rattle.month.proofs.Totals.{OfBooks, of_done}
 abbrev pub Fitting : ℕ → Books → Type 0
 Fitting cells s = (cells ≡ table_cells) × (length s.positions ≤ most_names)
 
-pub table_passes : (cells names : ℕ) → cells ≡ table_cells → names ≤ most_names → first (table_lines cells names) ≡ Done
+pub table_passes : (cells names : ℕ) → cells ≡ table_cells → names ≤ most_names → first (table_lines cells names) ≡ Ok tt
 unfolding table_lines first
 table_passes cells names e h = rw (le-ltb most_names names h, eq-eqb cells table_cells e)
 
@@ -45,7 +44,7 @@ books_again s t h =
 -- the positions over a table of zeros
 left_over : (s : Books) (t : List ℕ) → table_left (at s) t ≡ over (table_of s.positions) (noughts (length t))
 unfolding table_left
-left_over s t = sym (laid_done 0 Done (length t) (table_of s.positions) refl)
+left_over s t = sym (laid_done 0 (Ok tt) (length t) (table_of s.positions) refl)
 
 pub stands_fitting : (R : Report) (t : List ℕ) → OfBooks (Fitting (length t)) R → standing (progress_of R) (table_left R t) ≡ R
 unfolding standing progress_of tally_of
@@ -64,8 +63,8 @@ stands (at s) t e f = stands_fitting (at s) t (e, f s refl)
 
 pub standing_fits : (p : Progress) (t : List ℕ) → OfBooks (Fitting (length t)) (standing p t)
 unfolding standing books_of first_ones table_lines
-standing_fits (Refused r k) t = tt
-standing_fits (At y) t =
+standing_fits (Err s) t = tt
+standing_fits (Ok y) t =
     of_done (Fitting (length t)) (first (table_lines (length t) y.names)) y.line (books_of y t)
     (λ e.
     let f = none (table_lines (length t) y.names) e in
@@ -73,7 +72,7 @@ standing_fits (At y) t =
     let w : length (first_ones y.names t) ≡ y.names = length-take-le y.names (positions t) (omega (arith, length_positions t)) in
     (eqb-true (length t) table_cells (not-false (eqb (length t) table_cells) f.1.0), omega arith))
 
-slip_fits : (s : Books) (w : List ℕ) (k : Slip) → length s.positions ≤ most_names → first (slip_lines s w k) ≡ Done → length (after_slip s w k).positions ≤ most_names
+slip_fits : (s : Books) (w : List ℕ) (k : Slip) → length s.positions ≤ most_names → first (slip_lines s w k) ≡ Ok tt → length (after_slip s w k).positions ≤ most_names
 unfolding slip_lines entered_lines after_slip after_held after_order after_refused
 slip_fits s w slip.Other h e = h
 slip_fits s w (slip.Held m) h e = ltb-false most_names (length (entered s.positions (lot_in s w m))) (none (slip_lines s w (slip.Held m)) e).1.1.0

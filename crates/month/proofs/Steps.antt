@@ -9,13 +9,10 @@ use borrow.Author.Tests.{ltb-false, lt-ltb, le-ltb, eq-eqb, ne_eqb, leb-true, le
 use lib.Dec.{ltb, leb}
 use lib.ListN.{length, take, drop, take-append-drop}
 use lib.Seq.{length-take-le, take_at}
-use Rattle.refusal.specs.Table.{Line, first, and_then}
+use Rattle.refusal.specs.Table.{first, Outcome}
 use Rattle.refusal.specs.declared.Refusal.{Refusal}
 use Rattle.refusal.specs.declared.Refusal.TheVariants.{MalformedText}
-use Rattle.refusal.specs.declared.Outcome.{Outcome}
-use Rattle.refusal.specs.declared.Outcome.TheVariants.{Done}
-use Rattle.refusal.specs.declared.Outcome.TheVariants as outcome
-use Rattle.refusal.proofs.Tables.{none, first_append, first_done, first_refused}
+use Rattle.refusal.proofs.Tables.{none, first_done, first_refused}
 use Rattle.lent.specs.Grid.{noughts, over}
 use Rattle.lent.specs.Lent.{laid}
 use Rattle.lent.proofs.Laws.{either}
@@ -26,8 +23,6 @@ use Rattle.keys.specs.declared.Key.{Key}
 use Rattle.ledger.specs.Ledger.{entered, positions, first_ones, table_of, most_added, entered_lines, table_lines, enter_outcome, entered_as, cleared_past, LotEntered}
 use Rattle.ledger.specs.declared.Position.{Position}
 use Rattle.ledger.specs.declared.Lot.{Lot}
-use Rattle.ledger.specs.declared.Entered.{Entered}
-use Rattle.ledger.specs.declared.Entered.TheVariants as entry
 use Rattle.ledger.proofs.Storing.{length_positions}
 use Rattle.ledger.proofs.Tables.{table_over, table_length}
 use Rattle.ledger.proofs.Outcomes.{judged_done, past_laid, past_none}
@@ -36,13 +31,26 @@ use Rattle.slips.specs.declared.Slip.{Slip}
 use Rattle.slips.specs.declared.Slip.TheVariants as slip
 use Rattle.slips.proofs.Meaning.{held_small}
 use Rattle.month.specs.Month.{Books, most_jobs, job_number, lot_in, after_held, after_order, after_refused, after_slip, over_counted, slip_lines, Report, at, refused_by, go_on, book_line, line_taken}
-use Rattle.month.specs.Calls.{books_of, standing, tally_of, progress_of, table_left, TookLine}
-use Rattle.month.specs.Inner.{limit_lines, book_slip, Stepped, Fits, SmallSlip, names_held}
+use Rattle.month.specs.Calls.{at_line, names_held, books_of, standing, tally_of, progress_of, table_left, TookLine}
+use Rattle.month.specs.Inner.{limit_lines, book_slip, Stepped, Fits, SmallSlip}
 use Rattle.month.specs.declared.Tally.{Tally}
-use Rattle.month.specs.declared.Progress.{Progress}
-use Rattle.month.specs.declared.Progress.TheVariants.{At, Refused}
 use Rattle.month.proofs.Totals.{OfBooks, job_le}
 use Rattle.month.proofs.Standing.{Fitting, table_passes, standing_fits, line_fits, stands_after}
+use Rattle.std.specs.Prelude.{Ok, Err, Result}
+use Rattle.month.specs.declared.Fault.{Fault}
+use Rattle.ledger.specs.Outcomes.{Entered}
+use Rattle.month.specs.Outcomes.{Progress, fault}
+
+-- ---- a refusal with its line
+
+module _ {A : Type 0} where
+  pub ok_at_line : (o : Result A Refusal) (k : ℕ) (s : Result A Fault) (x : A) → s ≡ at_line o k → s ≡ Ok x → o ≡ Ok x
+  ok_at_line (Ok y) k s x is e = cc
+  ok_at_line (Err r) k s x is e = absurd (let z : ◌≡◌ {A = ℕ} 0 1 = cc in omega arith)
+
+  pub err_at_line : (o : Result A Refusal) (k : ℕ) (s : Result A Fault) (f : Fault) → s ≡ at_line o k → s ≡ Err f → (o ≡ Err f.refusal) × (f ≡ fault f.refusal k)
+  err_at_line (Ok y) k s f is e = absurd (let z : ◌≡◌ {A = ℕ} 0 1 = cc in omega arith)
+  err_at_line (Err r) k s f is e = let q : fault r k ≡ f = cc in (ap (λ (g : Fault). Err g.refusal) q, sym q ∙ ap (λ (g : Fault). fault g.refusal k) q)
 
 -- ---- the counts
 
@@ -80,10 +88,6 @@ pub names_are : (y : Tally) (t : List ℕ) → y.names ≤ 256 → length (books
 unfolding books_of first_ones
 names_are y t h = length-take-le y.names (positions t) (omega (arith, length_positions t))
 
--- two parts of a table of refusals, each said by itself
-pub said_parts : (a b : List Line) (x y o : Outcome) → x ≡ first a → y ≡ first b → o ≡ and_then x y → o ≡ first (a ++ b)
-said_parts a b x y o e f g = g ∙ ap (λ (z : Outcome). and_then z y) e ∙ ap (and_then (first a)) f ∙ sym (first_append a b)
-
 -- ---- the table
 
 -- its first positions are at its front
@@ -101,11 +105,11 @@ table_front n t long h =
 
 -- ---- a line that was read
 
-slip_refused : (s : Books) (w : List ℕ) (k : Slip) (r : Refusal) → first (slip_lines s w k) ≡ outcome.Refused r → book_slip s w k ≡ refused_by r s.line
+slip_refused : (s : Books) (w : List ℕ) (k : Slip) (r : Refusal) → first (slip_lines s w k) ≡ Err r → book_slip s w k ≡ refused_by r s.line
 unfolding book_slip
 slip_refused s w k r e = rw e
 
-slip_on : (s : Books) (w : List ℕ) (k : Slip) → first (slip_lines s w k) ≡ Done → book_slip s w k ≡ at (after_slip s w k)
+slip_on : (s : Books) (w : List ℕ) (k : Slip) → first (slip_lines s w k) ≡ Ok tt → book_slip s w k ≡ at (after_slip s w k)
 unfolding book_slip
 slip_on s w k e = rw e
 
@@ -121,15 +125,15 @@ same_books s s' e = cc
 
 -- ---- a step
 
-pub stepped_refused : (R : Report) (t t' : List ℕ) (r : Refusal) (k : ℕ) → R ≡ refused_by r k → length t' ≡ length t → Stepped R t (Refused r k) t'
+pub stepped_refused : (R : Report) (t t' : List ℕ) (r : Refusal) (k : ℕ) → R ≡ refused_by r k → length t' ≡ length t → Stepped R t (Err (fault r k)) t'
 unfolding progress_of
 stepped_refused R t t' r k e same = record { answer = rw e; table_is = λ s q. at_refused s r k (sym e ∙ q); same = same }
 
-stepped_on : (R : Report) (t t' : List ℕ) (s : Books) (v : Tally) → R ≡ at s → v ≡ tally_of s → take (length s.positions * 7) t' ≡ table_of s.positions → length t' ≡ length t → Stepped R t (At v) t'
+stepped_on : (R : Report) (t t' : List ℕ) (s : Books) (v : Tally) → R ≡ at s → v ≡ tally_of s → take (length s.positions * 7) t' ≡ table_of s.positions → length t' ≡ length t → Stepped R t (Ok v) t'
 unfolding progress_of
 stepped_on R t t' s v e f g same =
     record {
-      answer = rw e (ap At f);
+      answer = rw e (ap Ok f);
       table_is = λ s' q. subst (λ (z : Books). take (length z.positions * 7) t' ≡ table_of z.positions) (same_books s s' (sym e ∙ q)) g;
       same = same;
     }
@@ -137,7 +141,7 @@ stepped_on R t t' s v e f g same =
 -- ---- a holding
 
 module _ (t : List ℕ) (y : Tally) (w : List ℕ) (m : ℕ) (o : Outcome) (said : (u : List ℕ) → o ≡ first (limit_lines (books_of y u))) where
-  pub held_refused : (r : Refusal) → o ≡ outcome.Refused r → Stepped (book_slip (books_of y t) w (slip.Held m)) t (Refused r y.line) t
+  pub held_refused : (r : Refusal) → o ≡ Err r → Stepped (book_slip (books_of y t) w (slip.Held m)) t (Err (fault r y.line)) t
   unfolding slip_lines limit_lines books_of
   held_refused r e =
       let s = books_of y t in
@@ -145,33 +149,33 @@ module _ (t : List ℕ) (y : Tally) (w : List ℕ) (m : ℕ) (o : Outcome) (said
       (slip_refused s w (slip.Held m) r (first_refused (limit_lines s) (entered_lines s.positions (lot_in s w m)) r (sym (said t) ∙ e)))
       refl
 
-  pub held_few : o ≡ Done → y.jobs ≤ 200
+  pub held_few : o ≡ Ok tt → y.jobs ≤ 200
   unfolding limit_lines books_of
   held_few e =
       let f = ltb-false most_jobs (job_number (books_of y t)) (none (limit_lines (books_of y t)) (sym (said t) ∙ e)).0 in
       let g : y.jobs ≤ job_number (books_of y t) = job_le (books_of y t) in
       omega arith
 
-  pub held_counts : o ≡ Done → (y.accepted ≤ most_added) × (y.lines ≤ most_added) × (y.sum ≤ most_added) × (y.line ≤ most_added)
+  pub held_counts : o ≡ Ok tt → (y.accepted ≤ most_added) × (y.lines ≤ most_added) × (y.sum ≤ most_added) × (y.line ≤ most_added)
   unfolding limit_lines
   held_counts e = counts_fit y t (none (limit_lines (books_of y t)) (sym (said t) ∙ e)).1.0
 
 -- the answer says which outcome it was
 abbrev answer_number : Entered → ℕ
-answer_number (entry.Names n) = 0
-answer_number (entry.Refused r) = 1
+answer_number (Ok n) = 0
+answer_number (Err r) = 1
 
-refused_outcome : (o : Outcome) (l : List Position) (x : Refusal) → entry.Refused x ≡ entered_as o l → o ≡ outcome.Refused x
+refused_outcome : (o : Outcome) (l : List Position) (x : Refusal) → Err x ≡ entered_as o l → o ≡ Err x
 unfolding entered_as
-refused_outcome Done l x e = absurd (let z : ◌≡◌ {A = ℕ} 1 0 = ap answer_number e in omega arith)
-refused_outcome (outcome.Refused r) l x e = cc
+refused_outcome (Ok _) l x e = absurd (let z : ◌≡◌ {A = ℕ} 1 0 = ap answer_number e in omega arith)
+refused_outcome (Err r) l x e = cc
 
-done_outcome : (o : Outcome) (l : List Position) (n : ℕ) → entry.Names n ≡ entered_as o l → (o ≡ Done) × (n ≡ length l)
+done_outcome : (o : Outcome) (l : List Position) (n : ℕ) → Ok n ≡ entered_as o l → (o ≡ Ok tt) × (n ≡ length l)
 unfolding entered_as
-done_outcome Done l n e = (refl, cc)
-done_outcome (outcome.Refused r) l n e = absurd (let z : ◌≡◌ {A = ℕ} 0 1 = ap answer_number e in omega arith)
+done_outcome (Ok _) l n e = (refl, cc)
+done_outcome (Err r) l n e = absurd (let z : ◌≡◌ {A = ℕ} 0 1 = ap answer_number e in omega arith)
 
-module _ (t : List ℕ) (y : Tally) (w : List ℕ) (m : ℕ) (fits : Fits t y) (o : Outcome) (said : (u : List ℕ) → o ≡ first (limit_lines (books_of y u))) (done : o ≡ Done)
+module _ (t : List ℕ) (y : Tally) (w : List ℕ) (m : ℕ) (fits : Fits t y) (o : Outcome) (said : (u : List ℕ) → o ≡ first (limit_lines (books_of y u))) (done : o ≡ Ok tt)
     (job : ℕ) (is_job_lem : (u : List ℕ) → job ≡ job_number (books_of y u)) (key : Key) (is_key : key ≡ key_of w)
     (a : Entered) (t' : List ℕ) (told : LotEntered t y.names (record { name = key; millionths = m; job = job }) a t') (same : length t' ≡ length t) where
   same_lot : record { name = key; millionths = m; job = job } ≡ lot_in (books_of y t) w m
@@ -189,7 +193,7 @@ module _ (t : List ℕ) (y : Tally) (w : List ℕ) (m : ℕ) (fits : Fits t y) (
   told_here : LotEntered t y.names (lot_in (books_of y t) w m) a t'
   told_here = subst (λ (h : Lot). LotEntered t y.names h a t') same_lot told
 
-  pub enter_refused : (r : Refusal) → a ≡ entry.Refused r → Stepped (book_slip (books_of y t) w (slip.Held m)) t (Refused r y.line) t'
+  pub enter_refused : (r : Refusal) → a ≡ Err r → Stepped (book_slip (books_of y t) w (slip.Held m)) t (Err (fault r y.line)) t'
   unfolding books_of
   enter_refused r e =
       let s = books_of y t in
@@ -198,8 +202,8 @@ module _ (t : List ℕ) (y : Tally) (w : List ℕ) (m : ℕ) (fits : Fits t y) (
       (slip_refused s w (slip.Held m) r (sym same_outcome ∙ refused_outcome (enter_outcome t y.names h) (entered (first_ones y.names t) h) r (sym e ∙ told_here.answer)))
       same
 
-  pub enter_on : (n : ℕ) → a ≡ entry.Names n
-      → Stepped (book_slip (books_of y t) w (slip.Held m)) t (At (record { names = n; jobs = job; accepted = y.accepted; lines = y.lines + 1; sum = y.sum + m; line = y.line + 1 })) t'
+  pub enter_on : (n : ℕ) → a ≡ Ok n
+      → Stepped (book_slip (books_of y t) w (slip.Held m)) t (Ok (record { names = n; jobs = job; accepted = y.accepted; lines = y.lines + 1; sum = y.sum + m; line = y.line + 1 })) t'
   unfolding books_of tally_of after_slip after_held laid
   enter_on n e =
       let s = books_of y t in
@@ -216,28 +220,28 @@ module _ (t : List ℕ) (y : Tally) (w : List ℕ) (m : ℕ) (fits : Fits t y) (
 -- ---- a line that leaves the table as it was
 
 module _ (y : Tally) (k : Slip) (o : Outcome) (said : (t w : List ℕ) → o ≡ first (slip_lines (books_of y t) w k)) where
-  pub told_refused : (r : Refusal) → o ≡ outcome.Refused r → (t w : List ℕ) → Refused r y.line ≡ progress_of (book_slip (books_of y t) w k)
+  pub told_refused : (r : Refusal) → o ≡ Err r → (t w : List ℕ) → Err (fault r y.line) ≡ progress_of (book_slip (books_of y t) w k)
   unfolding progress_of books_of
   told_refused r e t w = sym (ap progress_of (slip_refused (books_of y t) w k r (sym (said t w) ∙ e)))
 
-  told_on : o ≡ Done → (t w : List ℕ) (v : Tally) → v ≡ tally_of (after_slip (books_of y t) w k) → At v ≡ progress_of (book_slip (books_of y t) w k)
+  told_on : o ≡ Ok tt → (t w : List ℕ) (v : Tally) → v ≡ tally_of (after_slip (books_of y t) w k) → Ok v ≡ progress_of (book_slip (books_of y t) w k)
   unfolding progress_of
-  told_on e t w v f = ap At f ∙ sym (ap progress_of (slip_on (books_of y t) w k (sym (said t w) ∙ e)))
+  told_on e t w v f = ap Ok f ∙ sym (ap progress_of (slip_on (books_of y t) w k (sym (said t w) ∙ e)))
 
-module _ (y : Tally) (k : ℕ) (few : y.names ≤ 256) (o : Outcome) (said : (t w : List ℕ) → o ≡ first (slip_lines (books_of y t) w (slip.Order k))) (done : o ≡ Done) where
+module _ (y : Tally) (k : ℕ) (few : y.names ≤ 256) (o : Outcome) (said : (t w : List ℕ) → o ≡ first (slip_lines (books_of y t) w (slip.Order k))) (done : o ≡ Ok tt) where
   pub order_counts : (t : List ℕ) → (y.accepted ≤ most_added) × (y.lines ≤ most_added) × (y.sum ≤ most_added) × (y.line ≤ most_added)
   unfolding slip_lines
   order_counts t = counts_fit y t (none (slip_lines (books_of y t) t (slip.Order k)) (sym (said t t) ∙ done)).1.1.0
 
   pub order_on : (t w : List ℕ)
-      → At (record { names = y.names; jobs = y.jobs; accepted = y.accepted + 1; lines = 0; sum = 0; line = y.line + 1 }) ≡ progress_of (book_slip (books_of y t) w (slip.Order k))
+      → Ok (record { names = y.names; jobs = y.jobs; accepted = y.accepted + 1; lines = 0; sum = 0; line = y.line + 1 }) ≡ progress_of (book_slip (books_of y t) w (slip.Order k))
   unfolding after_slip after_order tally_of books_of
   order_on t w =
       let i : y.names ≡ length (first_ones y.names t) = sym (names_are y t few) in
       told_on y (slip.Order k) o said done t w (record { names = y.names; jobs = y.jobs; accepted = y.accepted + 1; lines = 0; sum = 0; line = y.line + 1 })
       (λ j. record { names = i j; jobs = y.jobs; accepted = y.accepted + 1; lines = 0; sum = 0; line = y.line + 1 })
 
-module _ (y : Tally) (few : y.names ≤ 256) (o : Outcome) (said : (t w : List ℕ) → o ≡ first (slip_lines (books_of y t) w slip.Refused)) (done : o ≡ Done) where
+module _ (y : Tally) (few : y.names ≤ 256) (o : Outcome) (said : (t w : List ℕ) → o ≡ first (slip_lines (books_of y t) w slip.Refused)) (done : o ≡ Ok tt) where
   pub refused_counts : (t : List ℕ) → (y.accepted ≤ most_added) × (y.lines ≤ most_added) × (y.sum ≤ most_added) × (y.line ≤ most_added)
   unfolding slip_lines
   refused_counts t = counts_fit y t (none (slip_lines (books_of y t) t slip.Refused) (sym (said t t) ∙ done)).1.1.0
@@ -247,7 +251,7 @@ module _ (y : Tally) (few : y.names ≤ 256) (o : Outcome) (said : (t w : List �
   refused_few t = ltb-false 200 (y.jobs + 1) (none (slip_lines (books_of y t) t slip.Refused) (sym (said t t) ∙ done)).1.0
 
   pub refused_on : (t w : List ℕ)
-      → At (record { names = y.names; jobs = y.jobs + 1; accepted = y.accepted; lines = y.lines; sum = y.sum; line = y.line + 1 }) ≡ progress_of (book_slip (books_of y t) w slip.Refused)
+      → Ok (record { names = y.names; jobs = y.jobs + 1; accepted = y.accepted; lines = y.lines; sum = y.sum; line = y.line + 1 }) ≡ progress_of (book_slip (books_of y t) w slip.Refused)
   unfolding after_slip after_refused tally_of books_of
   refused_on t w =
       let i : y.names ≡ length (first_ones y.names t) = sym (names_are y t few) in
@@ -256,12 +260,12 @@ module _ (y : Tally) (few : y.names ≤ 256) (o : Outcome) (said : (t w : List �
 
 -- ---- a line by its form
 
-pub go_on_at : (o : Outcome) (k : ℕ) (s s' : Books) → go_on o k s ≡ at s' → (o ≡ Done) × (s ≡ s')
-go_on_at Done k s s' e = (refl, same_books s s' e)
-go_on_at (outcome.Refused r) k s s' e = at_refused s' r k e
+pub go_on_at : (o : Outcome) (k : ℕ) (s s' : Books) → go_on o k s ≡ at s' → (o ≡ Ok tt) × (s ≡ s')
+go_on_at (Ok _) k s s' e = (refl, same_books s s' e)
+go_on_at (Err r) k s s' e = at_refused s' r k e
 
 module _ (t : List ℕ) (y : Tally) (w : List ℕ) (k : Slip) where
-  pub slip_other : k ≡ slip.Other → Stepped (book_slip (books_of y t) w k) t (Refused MalformedText y.line) t
+  pub slip_other : k ≡ slip.Other → Stepped (book_slip (books_of y t) w k) t (Err (fault MalformedText y.line)) t
   unfolding slip_lines first books_of
   slip_other e = stepped_refused (book_slip (books_of y t) w k) t t MalformedText y.line (slip_refused (books_of y t) w k MalformedText (rw e)) refl
 
@@ -303,19 +307,19 @@ slip_small l slip.Refused e = tt
 
 -- ---- the next line
 
-pub next_refused : (t l : List ℕ) (p : Progress) (r : Refusal) (k : ℕ) → p ≡ Refused r k → Stepped (line_taken (standing p t) l) t p t
+pub next_refused : (t l : List ℕ) (p : Progress) (r : Refusal) (k : ℕ) → p ≡ Err (fault r k) → Stepped (line_taken (standing p t) l) t p t
 unfolding standing
 next_refused t l p r k e = rw e (stepped_refused (refused_by r k) t t r k refl refl)
 
-module _ (t l : List ℕ) (p : Progress) (y : Tally) (is : p ≡ At y) (o : Outcome) (said : o ≡ first (table_lines (length t) y.names)) where
-  pub next_misfit : (r : Refusal) → o ≡ outcome.Refused r → Stepped (line_taken (standing p t) l) t (Refused r y.line) t
+module _ (t l : List ℕ) (p : Progress) (y : Tally) (is : p ≡ Ok y) (o : Outcome) (said : o ≡ first (table_lines (length t) y.names)) where
+  pub next_misfit : (r : Refusal) → o ≡ Err r → Stepped (line_taken (standing p t) l) t (Err (fault r y.line)) t
   unfolding standing
   next_misfit r e = let q = sym said ∙ e in rw is (rw q (stepped_refused (refused_by r y.line) t t r y.line refl refl))
 
-  pub next_fits : o ≡ Done → Fits t y
+  pub next_fits : o ≡ Ok tt → Fits t y
   next_fits e = let f = judged_done (length t) y.names (sym said ∙ e) in record { long = f.0; few = f.1 }
 
-  pub next_on : o ≡ Done → (w : List ℕ) (k : Slip) (r : Progress) (t' : List ℕ) → w ≡ piece tabulator l 0 → k ≡ slip_of l → Stepped (book_slip (books_of y t) w k) t r t'
+  pub next_on : o ≡ Ok tt → (w : List ℕ) (k : Slip) (r : Progress) (t' : List ℕ) → w ≡ piece tabulator l 0 → k ≡ slip_of l → Stepped (book_slip (books_of y t) w k) t r t'
       → Stepped (line_taken (standing p t) l) t r t'
   unfolding standing book_line book_slip
   next_on e w k r t' f g h =
@@ -335,7 +339,7 @@ left_past : (R : Report) (t t' u : List ℕ) (k : ℕ) → OfBooks (Fitting (len
     → k ≡ names_held (progress_of R) → u ≡ cleared_past k t' → u ≡ table_left R t
 unfolding progress_of tally_of table_left
 left_past (at s) t t' u k f h e g c =
-    past_laid s.positions t' u f.1 (h s refl) (c ∙ ap (λ (z : ℕ). cleared_past z t') g) ∙ ap (λ (z : ℕ). laid 0 Done z (table_of s.positions)) e
+    past_laid s.positions t' u f.1 (h s refl) (c ∙ ap (λ (z : ℕ). cleared_past z t') g) ∙ ap (λ (z : ℕ). laid 0 (Ok tt) z (table_of s.positions)) e
 left_past (refused_by x j) t t' u k f h e g c = past_none t' u (c ∙ ap (λ (z : ℕ). cleared_past z t') g) ∙ ap noughts e
 
 pub took_line : (t l : List ℕ) (p r : Progress) (t' u : List ℕ) (k : ℕ) → Stepped (line_taken (standing p t) l) t r t' → k ≡ names_held r → u ≡ cleared_past k t' → TookLine t p l r u

@@ -10,9 +10,7 @@ use native.Mathlib.Omega.{arith}
 use borrow.Author.Tests.{ltb-false, le-ltb, eqb-true, eqb-false, not-false, not-true}
 use lib.Dec.{eqb}
 use lib.ListN.{length}
-use Rattle.refusal.specs.Table.{first}
-use Rattle.refusal.specs.declared.Outcome.{Outcome}
-use Rattle.refusal.specs.declared.Outcome.TheVariants.{Done, Refused}
+use Rattle.refusal.specs.Table.{first, Outcome}
 use Rattle.refusal.proofs.Tables.{none}
 use Rattle.lent.proofs.Laws.{either}
 use Rattle.fields.specs.Split.{newline, tabulator, piece, last_piece}
@@ -25,6 +23,7 @@ use Rattle.slips.specs.declared.Slip.TheVariants as slip
 use Rattle.slips.proofs.Meaning.{held_small}
 use Rattle.month.specs.Month.{Books, opening, is_open, most_jobs, million, job_number, lot_in, after_held, after_order, after_refused, after_slip, over_counted, slip_lines, Report, at, refused_by, go_on, book_line, line_taken, lines_taken, broken_off, closed, whole_lines, report_on, report_of}
 use Rattle.month.specs.Meaning.{Sound}
+use Rattle.std.specs.Prelude.{Ok, Err}
 
 -- ---- the books that lines lead to are sound
 
@@ -33,9 +32,9 @@ abbrev pub OfBooks : (Books → Type 0) → Report → Type 0
 OfBooks P (at s) = P s
 OfBooks P (refused_by r k) = Unit
 
-pub of_done : (P : Books → Type 0) (o : Outcome) (k : ℕ) (s : Books) → (o ≡ Done → P s) → OfBooks P (go_on o k s)
-of_done P Done k s f = f refl
-of_done P (Refused r) k s f = tt
+pub of_done : (P : Books → Type 0) (o : Outcome) (k : ℕ) (s : Books) → (o ≡ Ok tt → P s) → OfBooks P (go_on o k s)
+of_done P (Ok _) k s f = f refl
+of_done P (Err r) k s f = tt
 
 pub sound_opening : Sound opening
 unfolding opening totals
@@ -63,7 +62,7 @@ held_dated s w m i =
     let g = job_more s i.counted i.begun in
     entered_dated (lot_in s w m) s.jobs s.positions (job_le s) (omega arith) i.dated
 
-sound_held : (s : Books) (w : List ℕ) (m : ℕ) → Sound s → first (slip_lines s w (slip.Held m)) ≡ Done → Sound (after_held s w m)
+sound_held : (s : Books) (w : List ℕ) (m : ℕ) → Sound s → first (slip_lines s w (slip.Held m)) ≡ Ok tt → Sound (after_held s w m)
 unfolding slip_lines entered_lines after_held
 sound_held s w m i e =
     let f = none (slip_lines s w (slip.Held m)) e in
@@ -80,7 +79,7 @@ sound_held s w m i e =
       dated = held_dated s w m i;
     }
 
-sound_order : (s : Books) (w : List ℕ) (k : ℕ) → Sound s → first (slip_lines s w (slip.Order k)) ≡ Done → Sound (after_order s)
+sound_order : (s : Books) (w : List ℕ) (k : ℕ) → Sound s → first (slip_lines s w (slip.Order k)) ≡ Ok tt → Sound (after_order s)
 unfolding slip_lines after_order
 sound_order s w k i e =
     let f = none (slip_lines s w (slip.Order k)) e in
@@ -97,7 +96,7 @@ sound_order s w k i e =
       dated = i.dated;
     }
 
-sound_refused : (s : Books) (w : List ℕ) → Sound s → first (slip_lines s w slip.Refused) ≡ Done → Sound (after_refused s)
+sound_refused : (s : Books) (w : List ℕ) → Sound s → first (slip_lines s w slip.Refused) ≡ Ok tt → Sound (after_refused s)
 unfolding slip_lines after_refused
 sound_refused s w i e =
     let f = none (slip_lines s w slip.Refused) e in
@@ -112,7 +111,7 @@ sound_refused s w i e =
       dated = dated_more s.jobs (s.jobs + 1) s.positions (omega arith) i.dated;
     }
 
-sound_slip : (s : Books) (w : List ℕ) (k : Slip) → Sound s → first (slip_lines s w k) ≡ Done → Sound (after_slip s w k)
+sound_slip : (s : Books) (w : List ℕ) (k : Slip) → Sound s → first (slip_lines s w k) ≡ Ok tt → Sound (after_slip s w k)
 unfolding after_slip
 sound_slip s w slip.Other i e = i
 sound_slip s w (slip.Held m) i e = sound_held s w m i e
@@ -169,7 +168,7 @@ record Small (n : ℕ) (s : Books) : Type 0 where
   short : s.lines ≤ n
   light : s.sum ≤ million * s.lines
 
-small_slip : (n : ℕ) (s : Books) (w : List ℕ) (k : Slip) → ((m : ℕ) → k ≡ slip.Held m → m ≤ million) → Small n s → first (slip_lines s w k) ≡ Done → Small (n + 1) (after_slip s w k)
+small_slip : (n : ℕ) (s : Books) (w : List ℕ) (k : Slip) → ((m : ℕ) → k ≡ slip.Held m → m ≤ million) → Small n s → first (slip_lines s w k) ≡ Ok tt → Small (n + 1) (after_slip s w k)
 unfolding slip_lines after_slip after_held after_order after_refused
 small_slip n s w slip.Other h i e = absurd (let f = (none (slip_lines s w slip.Other) e).0 in let z : ◌≡◌ {A = ℕ} 0 1 = cc in omega arith)
 small_slip n s w (slip.Held m) h i e = let q = h m refl in let a = i.numbered in let b : s.lines ≤ n = i.short in let c = i.light in record { numbered = omega arith; short = omega arith; light = omega arith }

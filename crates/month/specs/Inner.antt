@@ -8,8 +8,7 @@ use Rattle.slips.specs.declared.Slip.TheVariants as slip
 use Rattle.month.specs.Month.{Books, most_jobs, job_number, over_counted, slip_lines, after_slip, Report, at, go_on, million}
 use Rattle.month.specs.Calls.{progress_of}
 use Rattle.month.specs.declared.Tally.{Tally}
-use Rattle.month.specs.declared.Progress.{Progress}
-use Rattle.month.specs.declared.Progress.TheVariants as progress
+use Rattle.month.specs.Outcomes.{Progress}
 
 -- 9 of a holding's line, but for its name
 unfoldable pub limit_lines : Books → List Line
@@ -38,8 +37,3 @@ SmallSlip slip.Other = Unit
 SmallSlip (slip.Held m) = m ≤ million
 SmallSlip (slip.Order k) = Unit
 SmallSlip slip.Refused = Unit
-
--- how many names the counts say that there are; a refusal none
-abbrev pub names_held : Progress → ℕ
-names_held (progress.At y) = y.names
-names_held (progress.Refused r k) = 0

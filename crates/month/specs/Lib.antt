@@ -1,3 +1,4 @@
+pub mod Outcomes
 pub mod Month
 pub mod Calls
 pub mod Meaning

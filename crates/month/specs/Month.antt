@@ -1,10 +1,8 @@
 -- Document 02, request 5: "one page over up to 200 jobs", line by line. Definitions only.
-use Rattle.std.specs.Prelude.{ℕ, ◌+◌, ◌-◌, Bool, true, not, cond, ◌||◌, List, [], ◌∷◌, ltb, eqb, length, take}
-use Rattle.refusal.specs.Table.{Line, first}
+use Rattle.std.specs.Prelude.{ℕ, ◌+◌, ◌-◌, Bool, true, not, cond, ◌||◌, List, [], ◌∷◌, ltb, eqb, length, take, Ok, Err}
+use Rattle.refusal.specs.Table.{Line, first, Outcome}
 use Rattle.refusal.specs.declared.Refusal.{Refusal}
 use Rattle.refusal.specs.declared.Refusal.TheVariants.{OverLimit, MalformedText}
-use Rattle.refusal.specs.declared.Outcome.{Outcome}
-use Rattle.refusal.specs.declared.Outcome.TheVariants as outcome
 use Rattle.fields.specs.Split.{newline, tabulator, split, piece, last_piece}
 use Rattle.keys.specs.Keys.{key_of}
 use Rattle.ledger.specs.Ledger.{entered, entered_lines, most_added}
@@ -105,8 +103,8 @@ pub data Report : Type 0 where
   refused_by : Refusal → ℕ → Report
 
 abbrev pub go_on : Outcome → ℕ → Books → Report
-go_on outcome.Done k s = at s
-go_on (outcome.Refused r) k s = refused_by r k
+go_on (Ok _) k s = at s
+go_on (Err r) k s = refused_by r k
 
 -- one line, its name in the first field
 unfoldable pub book_line : Books → List ℕ → Report

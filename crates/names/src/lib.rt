@@ -8,36 +8,19 @@ ghost use Rattle.names.specs.Names.{in_name, is_name, name_from};
 fn all_in_name(w: &[u8]) -> bool
     ensures { result ≡ all in_name w.now }
 {
-    let mut i = 0;
-    while i < w.len() {
-        if w[i] < 0x21 {
-            return false;
-        }
-        if 0x7e < w[i] {
-            return false;
-        }
-        i += 1;
-    }
-    true
+    w.iter().all(|b| b.is_ascii_graphic())
 }
 
 // An asset's name. The two words that begin other lines of a listing are none.
+#[tactic(auto, using(std::proofs::lemmas::Bool::Decides::nat_tests), unfolding(crate::specs::Names::is_name))]
 pub fn is_name(w: &[u8]) -> bool
     ensures { result ≡ is_name w.now }
 {
-    if w.len() < 1 {
-        return false;
-    }
-    if 16 < w.len() {
-        return false;
-    }
-    if !all_in_name(w) {
-        return false;
-    }
-    if text::same(w, b"order") {
-        return false;
-    }
-    !text::same(w, b"refused")
+    1 <= w.len()
+        && w.len() <= 16
+        && all_in_name(w)
+        && !text::same(w, b"order")
+        && !text::same(w, b"refused")
 }
 
 // The name that begins at a place.
@@ -48,8 +31,8 @@ pub fn name(text: &[u8], start: usize) -> &[u8]
         return &text[text.len()..];
     }
     // the tab first: it is near, and the line's end may be far
-    let e = fields::end_of(text, 9, start);
+    let e = fields::end_of(text, b'\t', start);
     let field = &text[start..e];
-    let k = fields::end_of(field, 10, 0);
+    let k = fields::end_of(field, b'\n', 0);
     &field[..k]
 }

@@ -1,62 +1,23 @@
 -- The tests that the code makes, and the steps of its loops. Assumes nothing.
-use Rattle.std.proofs.Common.{◌≡◌, ℕ, zero, suc, ◌+◌, ◌-◌, ◌*◌, ◌/◌, ◌^◌, ◌<◌, ◌≤◌, Bool, true, false, not, ◌&&◌, ◌||◌, T, leb, List, [], ◌∷◌, ◌++◌, length, get_or, take, drop, set, ℤ, sym, refl, ap, ◌∙◌, true≢false, add-one, arith, length-append, length-drop, length-set, drop_of_length-le, take_all, drop-cons, take-suc-set, take_at, drop-set-lt, drop_at, eq-eqb, le-leb}
+use Rattle.std.proofs.Common.{◌≡◌, ℕ, suc, ◌+◌, ◌<◌, ◌≤◌, Bool, true, false, not, ◌&&◌, ◌||◌, T, List, [], ◌∷◌, ◌++◌, length, get_or, take, drop, set, sym, refl, ap, ◌∙◌, subst, add-one, arith, length-append, drop_of_length-le, take_all, drop-cons, take-suc-set, take_at, drop-set-lt, drop_at}
 use mathlib.Core.Bool.{false≢true}
-use borrow.Author.Tests.{lt-leb}
-use lib.Seq.{set-get_or, append_snoc, set_at}
-use lib.Ieee.{Float, nan, inf, fin, binary64, fits, to_bits, lt, eq, ne, is_nan, up, down, size}
-use lib.Ieee.Bits.{to_bits-lt}
+use lib.Seq.{append_snoc, set_at}
+use lib.Ieee.{Float, nan, inf, fin, lt, eq, is_nan}
+use Rattle.std.specs.Float.{is_sign_negative}
 use Rattle.ordering.specs.Order.{has_minus, before, insert, insert_all, sorted, earlier, later}
 
--- ---- the sign's bit
+-- ---- the sign
 
-low_half : (a b : ℕ) → 2 ^ 63 + a + b < 2 ^ 64 → leb (2 ^ 63) (0 + a + b) ≡ false
-low_half a b h = lt-leb (2 ^ 63) (0 + a + b) (omega arith)
+pub sign_of : (x : Float) → has_minus x ≡ is_sign_negative x
+unfolding has_minus is_sign_negative
+sign_of nan = refl
+sign_of (inf s) = refl
+sign_of (fin s m e) = refl
 
-high_half : (a b : ℕ) → leb (2 ^ 63) (2 ^ 63 + a + b) ≡ true
-high_half a b = le-leb (2 ^ 63) (2 ^ 63 + a + b) (omega arith)
-
-other_sign : (m : ℕ) (e : ℤ) → T (fits binary64 (fin false m e)) → T (fits binary64 (fin true m e))
-unfolding fits
-other_sign zero e f = f
-other_sign (suc m) e f = f
-
--- the two parts of a pattern under the sign
-abbrev field : ℕ → ℕ
-field n = (size n - 53) * 2 ^ 52
-
-abbrev digits : ℕ → ℕ
-digits n = n / 2 ^ (size n - 53)
-
-abbrev units_at : ℕ → ℤ → ℕ
-units_at m e = m * up e * 2 ^ 1074 / down e
-
-pub sign_bit : (x : Float) → T (fits binary64 x) → is_nan x ≡ false → leb (2 ^ 63) (to_bits binary64 x) ≡ has_minus x
-unfolding to_bits has_minus is_nan
-sign_bit nan f n = absurd (true≢false n)
-sign_bit (inf true) f n = refl
-sign_bit (inf false) f n = refl
-sign_bit (fin true m e) f n = high_half (field (units_at m e)) (digits (units_at m e))
-sign_bit (fin false m e) f n = low_half (field (units_at m e)) (digits (units_at m e)) (to_bits-lt binary64 (fin true m e) (other_sign m e f))
+pub is_number : (x : Float) → is_nan x ≡ false → T (not (is_nan x))
+is_number x e = subst (λ (b : Bool). T (not b)) (sym e) tt
 
 -- ---- what a comparison tells
-
-pub differs : (x : Float) → ne x x ≡ is_nan x
-unfolding ne is_nan
-differs nan = refl
-differs (inf true) = refl
-differs (inf false) = refl
-differs (fin true m e) = rw (eq-eqb (m * up e * down e) (m * up e * down e) refl)
-differs (fin false m e) = rw (eq-eqb (m * up e * down e) (m * up e * down e) refl)
-
-flip : (a b : Bool) → not a ≡ b → a ≡ not b
-flip true true e = absurd (false≢true e)
-flip true false e = refl
-flip false true e = refl
-flip false false e = absurd (true≢false e)
-
-pub self_equal : (x : Float) → eq x x ≡ not (is_nan x)
-unfolding ne
-self_equal x = flip (eq x x) (is_nan x) (differs x)
 
 pub lt_left : (x y : Float) → lt x y ≡ true → is_nan x ≡ false
 unfolding lt is_nan
@@ -102,9 +63,6 @@ before_apart x y h e = rw (h, e, or_false (is_nan y))
 
 -- ---- a pass: what is done, and what is left
 
-pub pass_start : (l : List Float) (x : Float) → take 0 l ++ insert x (drop 0 l) ≡ insert x l
-pass_start l x = refl
-
 pub pass_step : (l : List Float) (x : Float) (k : ℕ) → k < length l
     → take (k + 1) (set l k (earlier x (get_or l k nan))) ++ insert (later x (get_or l k nan)) (drop (k + 1) (set l k (earlier x (get_or l k nan)))) ≡ take k l ++ insert x (drop k l)
 unfolding insert
@@ -116,12 +74,12 @@ pass_step l x k h =
 -- the two ways of a turn: x is put down at k and the entry there taken up, or not
 module _ (l xs : List Float) (x h : Float) (k : ℕ) (lt-k : k < length l) where
   pub pass_swap : true ≡ before x (get_or l k nan) → xs ≡ set l k x → h ≡ get_or l k nan
-      → (length xs ≡ length l) × (take (k + 1) xs ++ insert h (drop (k + 1) xs) ≡ take k l ++ insert x (drop k l))
-  pass_swap b e g = (ap length e ∙ simp length-set, rw (e, g) (rw (← b) at (pass_step l x k lt-k)))
+      → take (k + 1) xs ++ insert h (drop (k + 1) xs) ≡ take k l ++ insert x (drop k l)
+  pass_swap b e g = rw (e, g) (rw (← b) at (pass_step l x k lt-k))
 
-  pub pass_keep : false ≡ before x (get_or l k nan) → xs ≡ l → h ≡ x
-      → (length xs ≡ length l) × (take (k + 1) xs ++ insert h (drop (k + 1) xs) ≡ take k l ++ insert x (drop k l))
-  pass_keep b e g = (ap length e, rw (e, g) (rw (← b, set-get_or) at (pass_step l x k lt-k)))
+  pub pass_keep : false ≡ before x (get_or l k nan) → xs ≡ set l k (get_or l k nan) → h ≡ x
+      → take (k + 1) xs ++ insert h (drop (k + 1) xs) ≡ take k l ++ insert x (drop k l)
+  pass_keep b e g = rw (e, g) (rw (← b) at (pass_step l x k lt-k))
 
 pub pass_end : (l : List Float) (x : Float) (k : ℕ) → length l ≤ k → take k l ++ insert x (drop k l) ≡ l ++ (x ∷ [])
 unfolding insert
@@ -148,12 +106,6 @@ sort_step l p r i h e n =
     let s : set (p ++ drop i l) i r ≡ (p ++ (r ∷ [])) ++ drop (suc i) l = rw d (set_at p x (drop (suc i) l) r i n ∙ sym (append_snoc p r (drop (suc i) l))) in
     let k : length (p ++ (r ∷ [])) ≡ i + 1 = length-append p (r ∷ []) ∙ ap (λ (m : ℕ). m + 1) n in
     rw (s, take_at (p ++ (r ∷ [])) (drop (suc i) l) (i + 1) k, drop_at (p ++ (r ∷ [])) (drop (suc i) l) (i + 1) k, d, e)
-
--- the list keeps its length
-pub sort_length : (l p : List Float) (r : Float) (i : ℕ) → i < length l → length p ≡ i → length (set (p ++ drop i l) i r) ≡ length l
-sort_length l p r i h n =
-    let d = length-drop i l in
-    length-set (p ++ drop i l) i r ∙ length-append p (drop i l) ∙ omega arith
 
 pub sort_end : (l : List Float) (i : ℕ) → length l ≤ i → insert_all (take i l) (drop i l) ≡ l
 unfolding insert_all

@@ -150,9 +150,6 @@ pub record Woven (room l xs : List Float) (i j k : ℕ) : Type 0 where
   pub even : k + length room ≡ i + j
   pub made : take k xs ++ interleaved (drop i room) (drop j xs) ≡ interleaved room (drop (length room) l)
 
-pub woven_start : (room l : List Float) → length room ≤ length l → Woven room l l 0 (length room) 0
-woven_start room l h = record { long = refl; some = omega arith; within = h; even = omega arith; made = refl }
-
 module _ (room l xs : List Float) (i j k : ℕ) (w : Woven room l xs i j k) (h : i < length room) where
   pub second_in : true ≡ leads (drop j xs) (get_or room i nan) → j < length xs
   second_in e = leads_in xs j (get_or room i nan) e
@@ -268,9 +265,6 @@ module _ (l p : List Float) (m : ℕ) (h : m ≤ length l) (n : length p ≡ m) 
       ∙ ap (λ (a : List Float). p ++ a) (append-nil q)
 
   module _ (q : List Float) (g : length q ≡ length l - m) where
-    pub both_length : length (take m (p ++ drop m l) ++ (q ++ drop (length (p ++ drop m l) - m) (drop m (p ++ drop m l)))) ≡ length l
-    both_length = ap length (both_parts q) ∙ length-append p q ∙ omega arith
-
     -- and both merged, to out
     pub sort_made : (out : List Float) → Each Double l → p ≡ sorted (take m l) → q ≡ sorted (take (length (p ++ drop m l) - m) (drop m (p ++ drop m l)))
         → out ≡ interleaved (take m (take m (p ++ drop m l) ++ (q ++ drop (length (p ++ drop m l) - m) (drop m (p ++ drop m l))))) (drop m (take m (p ++ drop m l) ++ (q ++ drop (length (p ++ drop m l) - m) (drop m (p ++ drop m l)))))

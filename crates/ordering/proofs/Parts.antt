@@ -6,8 +6,6 @@ use Rattle.arithmetic.specs.Constants.{pz, unit}
 use Rattle.refusal.specs.Telling.{tells}
 use Rattle.refusal.specs.declared.Refusal.{Refusal}
 use Rattle.refusal.specs.declared.Refusal.TheVariants.{OverLimit}
-use Rattle.refusal.specs.declared.Outcome.{Outcome}
-use Rattle.refusal.specs.declared.Outcome.TheVariants.{Done, Refused}
 use Rattle.refusal.proofs.Tables.{table_hit, table_pass, table_end, none}
 use Rattle.lent.specs.Grid.{zeros}
 use Rattle.lent.specs.Lent.{laid}
@@ -15,16 +13,17 @@ use Rattle.lent.proofs.Sizes.{laid_refused}
 use Rattle.ordering.specs.Order.{insert, insert_all, sorted}
 use Rattle.ordering.specs.Nearest.{quantile, no_part, part_table, part_outcome, entry_of, entry_tells, quantile_answer, quantile_laid, sort_outcome, sort_laid}
 use Rattle.ordering.specs.Inner.{Part}
-use Rattle.ordering.specs.declared.Entry.{Entry}
-use Rattle.ordering.specs.declared.Entry.TheVariants as entry
 use Rattle.ordering.proofs.Laws.{length_insert}
 use Rattle.ordering.proofs.Nearest.{rest_part}
+use Rattle.std.specs.Prelude.{Ok, Err}
+use Rattle.ordering.specs.Outcomes.{Entry}
+use Rattle.refusal.specs.Table.{Outcome}
 
 -- ---- what an answer tells
 
 pub entry_tells_lem : (o : Outcome) (v : Float) → entry_tells (entry_of o v) ≡ tells o v
-entry_tells_lem Done v = refl
-entry_tells_lem (Refused r) v = refl
+entry_tells_lem (Ok _) v = refl
+entry_tells_lem (Err r) v = refl
 
 -- ---- a part
 
@@ -68,46 +67,46 @@ module _ (l : List Float) where
   all_laid : (k : ℕ) → k ≡ 0 → sorted l ≡ sorted l ++ replicate k pz
   all_laid k e = rw e (sym (append-nil (sorted l)))
 
-  laid_whole : (o : Outcome) → o ≡ Done → sorted l ≡ laid pz o (length l) (sorted l)
+  laid_whole : (o : Outcome) → o ≡ Ok tt → sorted l ≡ laid pz o (length l) (sorted l)
   unfolding laid
   laid_whole o d = let z = length_sorted l in rw d (all_laid (length l - length (sorted l)) (omega arith))
 
   -- ---- the call `sort`
 
-  pub sort_done : (m : List Float) → length l ≤ 4097 → m ≡ sorted l → (Done ≡ sort_outcome l) × (m ≡ sort_laid l)
+  pub sort_done : (m : List Float) → length l ≤ 4097 → m ≡ sorted l → ((Ok tt) ≡ sort_outcome l) × (m ≡ sort_laid l)
   unfolding sort_outcome sort_laid
   sort_done m h s =
-      let o : sort_outcome l ≡ Done = table_pass _ _ _ (le-ltb 4097 (length l) h) ∙ table_end in
+      let o : sort_outcome l ≡ (Ok tt) = table_pass _ _ _ (le-ltb 4097 (length l) h) ∙ table_end in
       (sym o, s ∙ laid_whole (sort_outcome l) o)
 
-  pub sort_refused : (m : List Float) → 4097 < length l → m ≡ zeros (length l) → (Refused OverLimit ≡ sort_outcome l) × (m ≡ sort_laid l)
+  pub sort_refused : (m : List Float) → 4097 < length l → m ≡ zeros (length l) → (Err OverLimit ≡ sort_outcome l) × (m ≡ sort_laid l)
   unfolding sort_outcome sort_laid
   sort_refused m h s =
-      let o : sort_outcome l ≡ Refused OverLimit = table_hit _ _ _ (lt-ltb 4097 (length l) h) in
+      let o : sort_outcome l ≡ Err OverLimit = table_hit _ _ _ (lt-ltb 4097 (length l) h) in
       (sym o, s ∙ laid_refused pz (sort_outcome l) OverLimit (length l) (sorted l) o)
 
 -- ---- the outcome
 
 module _ (l : List Float) (q : Float) where
-  pub part_outcome_lem : length l ≤ 4097 → no_part q ≡ false → part_outcome l q ≡ Done
+  pub part_outcome_lem : length l ≤ 4097 → no_part q ≡ false → part_outcome l q ≡ Ok tt
   unfolding part_outcome part_table
   part_outcome_lem h e = table_pass _ _ _ (le-ltb 4097 (length l) h) ∙ table_pass _ _ _ e ∙ table_end
 
-  pub part_accepted : part_outcome l q ≡ Done → (length l ≤ 4097) × (no_part q ≡ false)
+  pub part_accepted : part_outcome l q ≡ Ok tt → (length l ≤ 4097) × (no_part q ≡ false)
   unfolding part_outcome part_table
   part_accepted e = let a = none _ e in (ltb-false 4097 (length l) a.0, a.1.0)
 
   -- ---- what is answered, and what the list then is
 
-  pub quantile_done : (o : Outcome) (x : Float) (m : List Float) → o ≡ part_outcome l q → o ≡ Done → x ≡ quantile q l → m ≡ sorted l → (entry.Of x ≡ quantile_answer l q) × (m ≡ quantile_laid l q)
+  pub quantile_done : (o : Outcome) (x : Float) (m : List Float) → o ≡ part_outcome l q → o ≡ Ok tt → x ≡ quantile q l → m ≡ sorted l → (Ok x ≡ quantile_answer l q) × (m ≡ quantile_laid l q)
   unfolding quantile_answer quantile_laid
   quantile_done o x m e d v s = (rw (← e, d, v), s ∙ laid_whole l (part_outcome l q) (sym e ∙ d))
 
-  pub quantile_refused : (o : Outcome) (r : Refusal) (m : List Float) → o ≡ part_outcome l q → o ≡ Refused r → m ≡ zeros (length l) → (entry.Refused r ≡ quantile_answer l q) × (m ≡ quantile_laid l q)
+  pub quantile_refused : (o : Outcome) (r : Refusal) (m : List Float) → o ≡ part_outcome l q → o ≡ Err r → m ≡ zeros (length l) → (Err r ≡ quantile_answer l q) × (m ≡ quantile_laid l q)
   unfolding quantile_answer quantile_laid
   quantile_refused o r m e d s = (rw (← e, d), s ∙ laid_refused pz (part_outcome l q) r (length l) (sorted l) (sym e ∙ d))
 
-  pub quantile_known : length l ≤ 4097 → no_part q ≡ false → quantile_answer l q ≡ entry.Of (quantile q l)
+  pub quantile_known : length l ≤ 4097 → no_part q ≡ false → quantile_answer l q ≡ Ok (quantile q l)
   quantile_known h e = sym (quantile_done (part_outcome l q) (quantile q l) (sorted l) refl (part_outcome_lem h e) refl refl).0
 
   pub laid_known : length l ≤ 4097 → no_part q ≡ false → quantile_laid l q ≡ sorted l
@@ -116,14 +115,11 @@ module _ (l : List Float) (q : Float) where
   -- ---- the same of an entry that a call gave
 
   module _ (h : length l ≤ 4097) (p : Part q) (o : Entry) (e : o ≡ quantile_answer l q) where
-    known : o ≡ entry.Of (quantile q l)
+    known : o ≡ Ok (quantile q l)
     known = e ∙ quantile_known h (no_part_lem q p)
 
-    pub entry_given : (x : Float) → o ≡ entry.Of x → x ≡ quantile q l
+    pub entry_given : (x : Float) → o ≡ Ok x → x ≡ quantile q l
     entry_given x g = let k = known in cc
-
-    pub entry_not : (r : Refusal) → o ≡ entry.Refused r → ⊥
-    entry_not r g = let k = known in let z : ◌≡◌ {A = ℕ} 0 1 = cc in omega arith
 
 -- the two clauses of a call that puts its list in order, from one proof of both: what it answers, and what the list is
 pub value_and_list : {A B : Type 0} → A × B → record { value : A; xs_after : B }

@@ -1,3 +1,4 @@
+pub mod Outcomes
 pub mod Order
 pub mod Inner
 pub mod Meaning

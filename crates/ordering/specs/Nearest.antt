@@ -1,19 +1,16 @@
 -- Document 02, request 1, the Nearest rule: which entry of an ordered list stands at the part q of its length. Definitions only.
-use Rattle.std.specs.Prelude.{◌≡◌, ℕ, ◌+◌, ◌-◌, ◌*◌, ◌%◌, ◌≤◌, Bool, cond, not, ◌&&◌, ◌⊎◌, List, [], ◌∷◌, length, nat_lt, slice_index_or, Float}
+use Rattle.std.specs.Prelude.{◌≡◌, ℕ, ◌+◌, ◌-◌, ◌*◌, ◌%◌, ◌≤◌, Bool, cond, not, ◌&&◌, ◌⊎◌, List, [], ◌∷◌, length, nat_lt, slice_index_or, Float, Ok, Err}
 use Rattle.std.specs.Float.{nan, inf, fin, binary64}
 use Rattle.std.specs.Float.Ieee.{mul, le, up, down}
 use Rattle.std.specs.Float.Ieee.Nearest.{closest}
 use Rattle.arithmetic.specs.Constants.{pz, unit}
 use Rattle.arithmetic.specs.Arithmetic.{count_of}
-use Rattle.refusal.specs.Table.{Line, first}
+use Rattle.refusal.specs.Table.{Line, first, Outcome}
 use Rattle.refusal.specs.Telling.{Telling, accepts, refuses}
 use Rattle.refusal.specs.declared.Refusal.TheVariants.{OverLimit, ConfidenceOutOfRange}
-use Rattle.refusal.specs.declared.Outcome.{Outcome}
-use Rattle.refusal.specs.declared.Outcome.TheVariants.{Done, Refused}
 use Rattle.lent.specs.Lent.{laid}
 use Rattle.ordering.specs.Order.{sorted}
-use Rattle.ordering.specs.declared.Entry.{Entry}
-use Rattle.ordering.specs.declared.Entry.TheVariants as entry
+use Rattle.ordering.specs.Outcomes.{Entry}
 
 -- k is a / b "rounded to the nearest whole, halves to even"
 pub record Rounded (a b k : ℕ) : Type 0 where
@@ -65,13 +62,13 @@ unfolding part_table
 part_outcome l q = first (part_table (length l) q)
 
 abbrev pub entry_of : Outcome → Float → Entry
-entry_of Done x = entry.Of x
-entry_of (Refused r) x = entry.Refused r
+entry_of (Ok _) x = Ok x
+entry_of (Err r) x = Err r
 
 -- 0 and the entry, or the refusal's number and values
 abbrev pub entry_tells : Entry → Telling Float
-entry_tells (entry.Of x) = accepts x
-entry_tells (entry.Refused r) = refuses r
+entry_tells (Ok x) = accepts x
+entry_tells (Err r) = refuses r
 
 -- what `quantile` returns, and the list that it leaves: in order, or zeros after a refusal
 unfoldable pub quantile_answer : List Float → Float → Entry

@@ -1,35 +1,20 @@
 // Doubles in ascending order, −0 before +0 and every NaN last, and the entry that stands at a part of such a list.
 #![tactic(auto)]
 
-ghost use Rattle.std.specs.Prelude.{◌≡◌, ◌+◌, ◌*◌, ◌/◌, ◌^◌, ◌<◌, ◌≤◌, false, [], ◌∷◌, ◌++◌, length, take, drop, is_nan};
+ghost use Rattle.std.specs.Prelude.{◌≡◌, ◌+◌, ◌*◌, ◌/◌, ◌^◌, ◌<◌, ◌≤◌, false, [], ◌∷◌, ◌++◌, length, take, drop};
 ghost use Rattle.std.specs.Float.Ieee.Exact.{HasValue};
-ghost use Rattle.ordering.specs.Order.{has_minus, before, insert, sorted};
+ghost use Rattle.ordering.specs.Order.{before, insert, sorted};
 ghost use Rattle.ordering.specs.Inner.{leads, interleaved, Part, Short};
 ghost use Rattle.refusal.specs.Table.{first};
 ghost use Rattle.ordering.specs.Nearest.{whole_of, place, quantile, no_part, part_table, quantile_answer, quantile_laid, sort_outcome, sort_laid};
 
-use refusal::{Outcome, Refusal};
-
-// An entry of a list, or the refusal.
-#[derive(Clone, Copy)]
-pub enum Entry {
-    Of(f64),
-    Refused(Refusal),
-}
+use refusal::Refusal;
 
 // The rows of a portfolio's series, and its start.
 const MOST_ENTRIES: usize = 4097;
 
 // Under so many, an insertion each is as quick as a merge.
 const FEW: usize = 8;
-
-// The sign of a number.
-fn is_minus(x: f64) -> bool
-    requires { is_nan x ≡ false }
-    ensures { result ≡ has_minus x }
-{
-    0x8000_0000_0000_0000 <= f64::to_bits(x)
-}
 
 // Of equal numbers, the two zeros are told apart.
 fn comes_before(x: f64, y: f64) -> bool
@@ -39,15 +24,9 @@ fn comes_before(x: f64, y: f64) -> bool
         return true;
     }
     if x == y {
-        if is_minus(x) {
-            return !is_minus(y);
-        }
-        return false;
+        return x.is_sign_negative() && !y.is_sign_negative();
     }
-    if x == x {
-        return y != y;
-    }
-    false
+    !x.is_nan() && y.is_nan()
 }
 
 // x goes through the list: at each place the earlier stays and the later goes on. The last one is the answer.
@@ -55,14 +34,12 @@ fn pass(xs: &mut [f64], x: f64) -> f64
     ensures { xs.new ++ (result ∷ []) ≡ insert x xs.old }
 {
     let mut hold = x;
-    let mut k = 0;
-    while k < xs.len() {
-        let y = xs[k];
-        if comes_before(hold, y) {
-            xs[k] = hold;
-            hold = y;
+    for y in xs.iter_mut() {
+        let here = *y;
+        if comes_before(hold, here) {
+            *y = hold;
+            hold = here;
         }
-        k += 1;
     }
     hold
 }
@@ -71,12 +48,9 @@ fn pass(xs: &mut [f64], x: f64) -> f64
 fn insert_each(xs: &mut [f64])
     ensures { xs.new ≡ sorted xs.old }
 {
-    let mut i = 0;
-    while i < xs.len() {
+    for i in 0..xs.len() {
         let x = xs[i];
-        let last = pass(&mut xs[..i], x);
-        xs[i] = last;
-        i += 1;
+        xs[i] = pass(&mut xs[..i], x);
     }
 }
 
@@ -85,10 +59,7 @@ fn is_next(xs: &[f64], j: usize, x: f64) -> bool
     requires { j ≤ length xs.now }
     ensures { result ≡ leads (drop j xs.now) x }
 {
-    if j < xs.len() {
-        return comes_before(xs[j], x);
-    }
-    false
+    j < xs.len() && comes_before(xs[j], x)
 }
 
 // The room's entries and those of xs past as many become one list in xs, the next of the two at each place. Of equals the room's is first.
@@ -142,11 +113,9 @@ fn sort_in(xs: &mut [f64], room: &mut [f64])
 fn settle_last(xs: &mut [f64])
     ensures { xs.new ≡ xs.old }
 {
-    let mut k = xs.len();
-    while 0 < k {
-        k -= 1;
+    for k in (0..xs.len()).rev() {
         let x = xs[k];
-        if x == x {
+        if !x.is_nan() {
             return;
         }
         xs[k] = arithmetic::settled(x);
@@ -164,16 +133,16 @@ fn put_in_order(xs: &mut [f64])
 }
 
 // Puts a list in order. The list is lent to be written over: what it held is not kept.
-pub fn sort(xs: &mut [f64]) -> Outcome
+pub fn sort(xs: &mut [f64]) -> Result<(), Refusal>
     ensures value { result ≡ sort_outcome xs.old }
     ensures xs_after { xs.new ≡ sort_laid xs.old }
 {
     if MOST_ENTRIES < xs.len() {
         lent::clear(xs);
-        return Outcome::Refused(Refusal::OverLimit);
+        return Err(Refusal::OverLimit);
     }
     put_in_order(xs);
-    Outcome::Done
+    Ok(())
 }
 
 // t and a half, exactly.
@@ -226,30 +195,30 @@ fn quantile_in(xs: &mut [f64], q: f64) -> f64
 }
 
 // A NaN, or a number outside 0 to 1.
+#[tactic(auto, unfolding(crate::specs::Nearest::no_part))]
 pub fn is_no_part(q: f64) -> bool
     ensures { result ≡ no_part q }
 {
-    !refusal::both(0.0 <= q, q <= 1.0)
+    !(0.0 <= q && q <= 1.0)
 }
 
 // Too long a list, then a part that isn't one.
-fn judge(n: usize, q: f64) -> Outcome
+#[tactic(auto, unfolding(crate::specs::Nearest::part_table, refusal::specs::Table::first, refusal::specs::Table::or_else))]
+fn judge(n: usize, q: f64) -> Result<(), Refusal>
     ensures { result ≡ first (part_table n q) }
 {
-    let rest = refusal::refuse(is_no_part(q), Refusal::ConfidenceOutOfRange, Outcome::Done);
-    refusal::refuse(MOST_ENTRIES < n, Refusal::OverLimit, rest)
+    refusal::refuse(MOST_ENTRIES < n, Refusal::OverLimit)?;
+    refusal::refuse(is_no_part(q), Refusal::ConfidenceOutOfRange)
 }
 
 // The entry that stands at the part q of a list once it is in order. The list is lent to be written over: it is left in order.
-pub fn quantile(xs: &mut [f64], q: f64) -> Entry
+pub fn quantile(xs: &mut [f64], q: f64) -> Result<f64, Refusal>
     ensures value { result ≡ quantile_answer xs.old q }
     ensures xs_after { xs.new ≡ quantile_laid xs.old q }
 {
-    match judge(xs.len(), q) {
-        Outcome::Refused(r) => {
-            lent::clear(xs);
-            Entry::Refused(r)
-        }
-        Outcome::Done => Entry::Of(arithmetic::settled(quantile_in(xs, q))),
+    if let Err(r) = judge(xs.len(), q) {
+        lent::clear(xs);
+        return Err(r);
     }
+    Ok(arithmetic::settled(quantile_in(xs, q)))
 }

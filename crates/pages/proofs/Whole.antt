@@ -9,18 +9,14 @@ use lib.Dec.{ltb, eqb}
 use lib.ListN.{length, length-replicate}
 use Rattle.lent.specs.Grid.{noughts}
 use Rattle.lent.proofs.Laws.{either, same_or_not}
-use Rattle.refusal.specs.Table.{first, and_then}
+use Rattle.refusal.specs.Table.{first, and_then, Outcome}
 use Rattle.refusal.proofs.Tables.{none}
 use Rattle.refusal.specs.declared.Refusal.{Refusal}
 use Rattle.refusal.specs.declared.Refusal.TheVariants.{SliceLength, ShortBuffer}
-use Rattle.refusal.specs.declared.Outcome.{Outcome}
-use Rattle.refusal.specs.declared.Outcome.TheVariants.{Done, Refused}
 use Rattle.ledger.specs.Ledger.{most_names, table_cells}
 use Rattle.slips.specs.Slips.{most_line}
 use Rattle.month.specs.Month.{opening, Report, at, refused_by, closed, broken_off, report_of}
 use Rattle.month.specs.Calls.{books_of, standing, tally_of, progress_of}
-use Rattle.month.specs.declared.Progress.{Progress}
-use Rattle.month.specs.declared.Progress.TheVariants as progress
 use Rattle.month.proofs.Totals.{report_totals}
 use Rattle.month.proofs.Steps.{go_on_at}
 use Rattle.cutting.specs.Cutting.{Stream, dry, gathered}
@@ -31,8 +27,10 @@ use Rattle.cutting.proofs.Begun.{dry_again, ended_again}
 use Rattle.cutting.proofs.Fed.{fed_anywhere}
 use Rattle.lent.specs.Lent.{laid}
 use Rattle.listing.specs.Listing.{listed_as, ListingMade}
-use Rattle.listing.specs.declared.Listed.{Listed}
 use Rattle.pages.specs.Pages.{page_in, report_says, names_in, page_lines, end_outcome, ReportEnded, report_lines, report_outcome, TextReported}
+use Rattle.std.specs.Prelude.{Ok, Err}
+use Rattle.listing.specs.Outcomes.{Listed}
+use Rattle.month.specs.Outcomes.{Progress, fault}
 
 -- ---- the input in one piece
 
@@ -43,11 +41,11 @@ fed_whole text = fed_anywhere (text ∷ []) ∙ ap report_of (append-nil text)
 -- ---- what the end says, where table and buffer are what they should be, and where not
 
 module _ (text : List ℕ) (cells longest room : ℕ) where
-  no_table : (cells ≡ table_cells → ⊥) → report_outcome text cells longest room ≡ Refused SliceLength
+  no_table : (cells ≡ table_cells → ⊥) → report_outcome text cells longest room ≡ Err SliceLength
   unfolding report_outcome report_lines first and_then
   no_table n = rw (ne_eqb cells table_cells n)
 
-  no_room : cells ≡ table_cells → longest ≤ most_line → report_outcome text cells longest room ≡ Refused ShortBuffer
+  no_room : cells ≡ table_cells → longest ≤ most_line → report_outcome text cells longest room ≡ Err ShortBuffer
   unfolding report_outcome report_lines first and_then
   no_room e h = rw (eq-eqb cells table_cells e, lt-ltb longest (most_line + 1) (omega arith)) (⊎_elim (λ t. rw t) (λ t. rw t) (either (ltb room 32768)))
 
@@ -59,24 +57,24 @@ module _ (text : List ℕ) (cells longest room : ℕ) where
 
 -- a report that was refused from its first byte on: 10 for the table, else what it was refused by, where that is 11
 module _ (t : List ℕ) (room k : ℕ) where
-  end_no_table : (length t ≡ table_cells → ⊥) → end_outcome (progress.Refused SliceLength k) t room ≡ Refused SliceLength
+  end_no_table : (length t ≡ table_cells → ⊥) → end_outcome (Err (fault SliceLength k)) t room ≡ Err SliceLength
   unfolding end_outcome page_lines names_in first and_then
   end_no_table n = rw (ne_eqb (length t) table_cells n)
 
-  end_no_room : length t ≡ table_cells → end_outcome (progress.Refused ShortBuffer k) t room ≡ Refused ShortBuffer
+  end_no_room : length t ≡ table_cells → end_outcome (Err (fault ShortBuffer k)) t room ≡ Err ShortBuffer
   unfolding end_outcome page_lines names_in first and_then standing closed report_says
   end_no_room e = rw (eq-eqb (length t) table_cells e) (⊎_elim (λ b. rw b) (λ b. rw b) (either (ltb room 32768)))
 
 -- a refused call's promise does not speak of what it would have written
-refused_alike : (x : Refusal) (o o' : Outcome) (s s' : List ℕ) (room : ℕ) {r : Listed} {page : List ℕ} → o ≡ Refused x → o' ≡ Refused x → ListingMade o s room r page → ListingMade o' s' room r page
+refused_alike : (x : Refusal) (o o' : Outcome) (s s' : List ℕ) (room : ℕ) {r : Listed} {page : List ℕ} → o ≡ Err x → o' ≡ Err x → ListingMade o s room r page → ListingMade o' s' room r page
 unfolding listed_as laid
 refused_alike x o o' s s' room {r} {page} e f m =
-    let q : ListingMade (Refused x) s room r page = subst (λ (z : Outcome). ListingMade z s room r page) e m in
+    let q : ListingMade (Err x) s room r page = subst (λ (z : Outcome). ListingMade z s room r page) e m in
     subst (λ (z : Outcome). ListingMade z s' room r page) (sym f) (record { answer = q.answer; bytes_are = q.bytes_are; within = q.within; told = q.told })
 
 -- ---- the counts after the piece
 
-fits : (names n cells room : ℕ) → first (feed_lines names n cells room) ≡ Done → names ≤ most_names
+fits : (names n cells room : ℕ) → first (feed_lines names n cells room) ≡ Ok tt → names ≤ most_names
 unfolding feed_lines
 fits names n cells room d = ltb-false most_names names (none (feed_lines names n cells room) d).0
 
@@ -91,7 +89,7 @@ names_few (at s) n t room e =
     ⊎_elim (λ b. rw b f) (λ b. rw b (omega arith)) (either (eqb n 0))
 
 -- a stream that was refused from its first byte on stays so
-fed_refused : (S : Stream) (x : Refusal) (k : ℕ) (s : List ℕ) → S.report ≡ refused_by x k → (feed_of (fed_by S s)).progress ≡ progress.Refused x k
+fed_refused : (S : Stream) (x : Refusal) (k : ℕ) (s : List ℕ) → S.report ≡ refused_by x k → (feed_of (fed_by S s)).progress ≡ Err (fault x k)
 unfolding fed_by rested_by feed_of progress_of
 fed_refused S x k s e = rw (bytes_refused s S x k e)
 
@@ -99,7 +97,7 @@ fed_refused S x k s e = rw (bytes_refused s S x k e)
 
 -- counts of a report on nothing, and no byte held
 abbrev none_fed : Feed
-none_fed = record { progress = progress.At (tally_of opening); held = 0 }
+none_fed = record { progress = Ok (tally_of opening); held = 0 }
 
 module _ (text t h : List ℕ) (room : ℕ) (f : Feed) (t₂ h₂ : List ℕ) (p : Progress)
     (took : TookBytes (noughts (length t)) (noughts (length h)) none_fed text f t₂ h₂) (ended : p ≡ ended_by f.progress f.held) (same : length t₂ ≡ length t) where
@@ -108,10 +106,10 @@ module _ (text t h : List ℕ) (room : ℕ) (f : Feed) (t₂ h₂ : List ℕ) (p
   begun = streaming none_fed (noughts (length t)) (noughts (length h))
 
   -- refused before the first byte
-  refused_first : (x : Refusal) → begun.report ≡ refused_by x 1 → p ≡ progress.Refused x 1
+  refused_first : (x : Refusal) → begun.report ≡ refused_by x 1 → p ≡ Err (fault x 1)
   unfolding ended_by
   refused_first x e =
-      let a : f.progress ≡ progress.Refused x 1 = ap (λ (g : Feed). g.progress) took.answer ∙ fed_refused begun x 1 text e in
+      let a : f.progress ≡ Err (fault x 1) = ap (λ (g : Feed). g.progress) took.answer ∙ fed_refused begun x 1 text e in
       ended ∙ rw a
 
   begun_no_table : (length t ≡ table_cells → ⊥) → begun.report ≡ refused_by SliceLength 1

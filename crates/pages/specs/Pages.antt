@@ -1,10 +1,8 @@
 -- Document 02, request 5: "one page". Definitions only.
-use Rattle.std.specs.Prelude.{ℕ, ◌+◌, ◌-◌, ◌*◌, ◌≡◌, not, cond, List, [], ◌∷◌, ◌++◌, ltb, eqb, length, get_or}
+use Rattle.std.specs.Prelude.{ℕ, ◌+◌, ◌-◌, ◌*◌, ◌≡◌, not, cond, List, [], ◌∷◌, ◌++◌, ltb, eqb, length, get_or, Ok, Err}
 use Rattle.lent.specs.Grid.{noughts}
-use Rattle.refusal.specs.Table.{Line, first, and_then}
+use Rattle.refusal.specs.Table.{Line, first, and_then, Outcome}
 use Rattle.refusal.specs.declared.Refusal.TheVariants.{OverLimit, SliceLength, ShortBuffer}
-use Rattle.refusal.specs.declared.Outcome.{Outcome}
-use Rattle.refusal.specs.declared.Outcome.TheVariants as outcome
 use Rattle.text.specs.Bytes.{bytes}
 use Rattle.fields.specs.Split.{newline, tabulator}
 use Rattle.writing.specs.Writing.{decimal, joined}
@@ -15,10 +13,9 @@ use Rattle.ledger.specs.Meaning.{totals}
 use Rattle.slips.specs.Slips.{most_line}
 use Rattle.month.specs.Month.{Books, million, Report, at, refused_by, closed, report_of}
 use Rattle.month.specs.Calls.{standing}
-use Rattle.month.specs.declared.Progress.{Progress}
-use Rattle.month.specs.declared.Progress.TheVariants as progress
 use Rattle.listing.specs.Listing.{ListingMade}
-use Rattle.listing.specs.declared.Listed.{Listed}
+use Rattle.listing.specs.Outcomes.{Listed}
+use Rattle.month.specs.Outcomes.{Progress}
 
 -- ---- the page: tabs between, numbers without leading zeros
 
@@ -48,8 +45,8 @@ page_in (at s) = page_of s
 page_in (refused_by r k) = []
 
 unfoldable pub report_says : Report → Outcome
-report_says (at s) = outcome.Done
-report_says (refused_by r k) = outcome.Refused r
+report_says (at s) = Ok tt
+report_says (refused_by r k) = Err r
 
 -- ---- the calls
 
@@ -59,8 +56,8 @@ least_page = 32768
 
 -- how many names the counts say that there are
 unfoldable pub names_in : Progress → ℕ
-names_in (progress.At y) = y.names
-names_in (progress.Refused r k) = 0
+names_in (Ok y) = y.names
+names_in (Err s) = 0
 
 -- 9: more names than a table has room for; 10: the table isn't 256 positions of seven numbers; 11
 unfoldable pub page_lines : ℕ → ℕ → ℕ → List Line
@@ -78,8 +75,8 @@ pub record ReportEnded (t : List ℕ) (p : Progress) (room : ℕ) (r : Listed) (
 
 -- the number of the line at fault where the report ends so; of an open job the line that is missing
 unfoldable pub fault_line : Progress → ℕ
-fault_line (progress.At y) = cond (eqb y.lines 0) 0 y.line
-fault_line (progress.Refused r k) = k
+fault_line (Ok y) = cond (eqb y.lines 0) 0 y.line
+fault_line (Err s) = s.line
 
 -- ---- a whole input by one call
 

@@ -1,19 +1,19 @@
 // The page of a month-end report: bytes written into a lent buffer.
 #![tactic(auto)]
 
-ghost use Rattle.std.specs.Prelude.{◌≡◌, List, ℕ, ◌+◌, ◌*◌, ◌-◌, ◌≤◌, length};
+ghost use Rattle.std.specs.Prelude.{◌≡◌, List, ℕ, ◌+◌, ◌*◌, ◌-◌, ◌≤◌, length, Ok, Err, MatchResult};
+ghost use Rattle.refusal.specs.Table.{first};
 ghost use Rattle.lent.specs.Grid.{noughts};
 ghost use Rattle.writing.specs.Writing.{joined, Wrote, Fitting};
 ghost use Rattle.ledger.specs.Ledger.{position_at};
 ghost use Rattle.month.specs.Month.{closed};
 ghost use Rattle.month.specs.Calls.{books_of, standing};
 ghost use Rattle.listing.specs.Listing.{ListingMade};
-ghost use Rattle.pages.specs.Pages.{figure, jobs_line, position_line, page_of, page_in, report_says, names_in, end_outcome, ReportEnded, fault_line, TextReported};
+ghost use Rattle.pages.specs.Pages.{figure, jobs_line, position_line, page_of, page_in, report_says, page_lines, end_outcome, ReportEnded, fault_line, TextReported};
 
 use ledger::Position;
-use listing::Listed;
-use month::{Progress, Tally};
-use refusal::{Outcome, Refusal};
+use month::{Fault, Tally};
+use refusal::Refusal;
 
 // 32,768 bytes hold every page.
 pub const LEAST_PAGE: usize = 32768;
@@ -59,10 +59,8 @@ fn put_positions(table: &[usize], n: usize, out: &mut [u8], from: usize) -> usiz
     ensures { Wrote out.old from (joined n (λ i. position_line (position_at table.now i))) out.new result }
 {
     let mut at = from;
-    let mut i = 0;
-    while i < n {
+    for i in 0..n {
         at = put_position(out, at, ledger::position_in(table, i));
-        i += 1;
     }
     at
 }
@@ -71,10 +69,7 @@ fn put_positions(table: &[usize], n: usize, out: &mut [u8], from: usize) -> usiz
 fn refused(y: Tally) -> usize
     ensures { result ≡ y.jobs - y.accepted }
 {
-    if y.jobs < y.accepted {
-        return 0;
-    }
-    y.jobs - y.accepted
+    y.jobs.saturating_sub(y.accepted)
 }
 
 // The page, from the start of the buffer on; the answer is its length.
@@ -88,86 +83,89 @@ fn put_page(table: &[usize], y: Tally, page: &mut [u8]) -> usize
     put_positions(table, y.names, page, headed)
 }
 
-// What a report says that ends so, with a table of so many numbers.
-fn ended(progress: Progress, cells: usize) -> Outcome
-    ensures { (t : List ℕ) → length t ≡ cells → result ≡ report_says (closed (standing progress t)) }
+// The counts, or the refusal without its line.
+fn counts(progress: Result<Tally, Fault>) -> Result<Tally, Refusal>
+    ensures { MatchResult progress (λ y. result ≡ Ok y) (λ s. result ≡ Err s.refusal) }
 {
-    match progress {
-        Progress::Refused(r, _) => Outcome::Refused(r),
-        Progress::At(y) => {
-            let open = refusal::refuse(y.lines != 0, Refusal::MalformedText, Outcome::Done);
-            refusal::and_then(ledger::judge_table(cells, y.names), open)
-        }
-    }
+    progress.map_err(|fault| fault.refusal)
 }
 
-// How many names the counts say that there are.
-fn names_in(progress: Progress) -> usize
-    ensures { result ≡ names_in progress }
+// What a report says that ends so, with a table of so many numbers.
+fn ended(progress: Result<Tally, Fault>, cells: usize) -> Result<(), Refusal>
+    ensures { (t : List ℕ) → length t ≡ cells → result ≡ report_says (closed (standing progress t)) }
 {
-    match progress {
-        Progress::At(y) => y.names,
-        Progress::Refused(_, _) => 0,
-    }
+    let y = counts(progress)?;
+    ledger::judge_table(cells, y.names)?;
+    refusal::refuse(y.lines != 0, Refusal::MalformedText)
+}
+
+// 9, 10 and 11 of so many names, a table of so many numbers and room for a page.
+#[tactic(auto, unfolding(crate::specs::Pages::page_lines, refusal::specs::Table::first, refusal::specs::Table::or_else))]
+fn judge_page(names: usize, cells: usize, room: usize) -> Result<(), Refusal>
+    ensures { result ≡ first (page_lines names cells room) }
+{
+    refusal::refuse(ledger::MOST_NAMES < names, Refusal::OverLimit)?;
+    refusal::refuse(cells != ledger::TABLE_CELLS, Refusal::SliceLength)?;
+    refusal::refuse(room < LEAST_PAGE, Refusal::ShortBuffer)
 }
 
 // 9, 10 and 11, then what the report says.
-fn judge_end(cells: usize, room: usize, progress: Progress) -> Outcome
+fn judge_end(cells: usize, room: usize, progress: Result<Tally, Fault>) -> Result<(), Refusal>
     ensures { (t : List ℕ) → length t ≡ cells → result ≡ end_outcome progress t room }
 {
-    let o = refusal::refuse(room < LEAST_PAGE, Refusal::ShortBuffer, Outcome::Done);
-    let o = refusal::refuse(cells != ledger::TABLE_CELLS, Refusal::SliceLength, o);
-    let o = refusal::refuse(
-        ledger::MOST_NAMES < names_in(progress),
-        Refusal::OverLimit,
-        o,
-    );
-    refusal::and_then(o, ended(progress, cells))
+    judge_page(month::names_held(progress), cells, room)?;
+    ended(progress, cells)
 }
 
 // The page of the counts, or the refusal.
-fn print(table: &[usize], progress: Progress, said: Outcome, page: &mut [u8]) -> Listed
+fn print(
+    table: &[usize],
+    progress: Result<Tally, Fault>,
+    said: Result<(), Refusal>,
+    page: &mut [u8],
+) -> Result<usize, Refusal>
     requires said_value { said ≡ end_outcome progress table.now (length page.old) }
     requires page_value { page.old ≡ noughts (length page.old) }
     ensures { ListingMade (end_outcome progress table.now (length page.old)) (page_in (closed (standing progress table.now))) (length page.old) result page.new }
 {
-    match said {
-        Outcome::Refused(r) => Listed::Refused(r),
-        Outcome::Done => match progress {
-            Progress::Refused(r, _) => Listed::Refused(r),
-            Progress::At(y) => Listed::Sheet(put_page(table, y, page)),
-        },
-    }
+    said?;
+    let y = counts(progress)?;
+    Ok(put_page(table, y, page))
 }
 
 // The end of the input: the page at the front of its buffer, or the refusal. The table is zero in either case.
-pub fn end_report(table: &mut [usize], progress: Progress, page: &mut [u8]) -> Listed
+pub fn end_report(
+    table: &mut [usize],
+    progress: Result<Tally, Fault>,
+    page: &mut [u8],
+) -> Result<usize, Refusal>
     ensures { ReportEnded table.old progress (length page.old) result table.new page.new }
 {
     let said = judge_end(table.len(), page.len(), progress);
-    lent::clear_bytes(page);
+    lent::clear(page);
     let listed = print(table, progress, said, page);
-    lent::clear_numbers_from(table, 0);
+    lent::clear(table);
     listed
 }
 
 // The number of the line at fault where the report ends so: of a job that is open, the line that is missing. 0 where there is none.
-pub fn fault_line(progress: Progress) -> usize
+#[tactic(auto, unfolding(crate::specs::Pages::fault_line))]
+pub fn fault_line(progress: Result<Tally, Fault>) -> usize
     ensures { result ≡ fault_line progress }
 {
     match progress {
-        Progress::Refused(_, k) => k,
-        Progress::At(y) => {
-            if y.lines == 0 {
-                return 0;
-            }
-            y.line
-        }
+        Err(fault) => fault.line,
+        Ok(y) => { if y.lines == 0 { 0 } else { y.line } }
     }
 }
 
 // A whole input at once: its page at the front of the buffer, or the refusal. The table and the held bytes are zero in either case.
-pub fn text_to_page(text: &[u8], table: &mut [usize], held: &mut [u8], page: &mut [u8]) -> Listed
+pub fn text_to_page(
+    text: &[u8],
+    table: &mut [usize],
+    held: &mut [u8],
+    page: &mut [u8],
+) -> Result<usize, Refusal>
     ensures { TextReported text.now table.old held.old (length page.old) result table.new held.new page.new }
 {
     let begun = cutting::begin_feed(table, held);

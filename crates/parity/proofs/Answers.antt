@@ -1,5 +1,5 @@
 -- What each way through the allocator answers: the tables one after the other, and the buffers. Assumes nothing.
-use Prim.Native.Nat.{ℕ, ◌-◌, ◌*◌}
+use Prim.Native.Nat.{ℕ, ◌-◌, ◌*◌, ◌≤◌}
 use mathlib.Core.Path.{◌≡◌, refl, sym, ap, subst, ◌∙◌}
 use mathlib.Core.Bool.{true, not}
 use mathlib.Core.List.{List, [], ◌∷◌, ◌++◌}
@@ -10,20 +10,17 @@ use lib.ListN.{length, take}
 use lib.Seq.{take-append-le}
 use lib.Ieee.{Float}
 use Rattle.arithmetic.specs.Constants.{pz}
-use Rattle.refusal.specs.Table.{Line, first, or_else, and_then}
+use Rattle.refusal.specs.Table.{Line, first, or_else, and_then, Outcome}
 use Rattle.refusal.specs.declared.Refusal.{Refusal}
 use Rattle.refusal.specs.declared.Refusal.TheVariants.{NoData, DimensionMismatch}
-use Rattle.refusal.specs.declared.Outcome.{Outcome}
-use Rattle.refusal.specs.declared.Outcome.TheVariants.{Done, Refused}
 use Rattle.refusal.proofs.Tables.{done_refused, table, table_end, none, first_append, parts_done, then_done, then_refused}
 use Rattle.lent.specs.Grid.{zeros}
-use Rattle.lent.specs.Lent.{sizes, laid, told_of}
-use Rattle.lent.specs.declared.Answer.{Answer}
+use Rattle.lent.specs.Lent.{sizes, laid, told_of, Answer}
 use Rattle.lent.proofs.Sizes.{sized_done, laid_refused}
 use Rattle.stats.specs.Covariance.{any_low}
 use Rattle.distances.specs.declared.Measure.TheVariants.{Hrp}
 use Rattle.tree.specs.Rows.{is_order}
-use Rattle.tree.specs.Order.{seriated}
+use Rattle.tree.specs.Order.{seriate_answer, seriated}
 use Rattle.linkage.specs.declared.Distance.{Distance}
 use Rattle.linkage.specs.declared.Linkage.TheVariants.{Single}
 use Rattle.clusters.specs.Shares.{weights_in}
@@ -33,7 +30,8 @@ use Rattle.arranging.proofs.Laws.{Arrangeable, arrange_passes, order_front, dist
 use Rattle.rooms.specs.Rooms.{ParityRoom, room_lines, parity_room_lines, square_lines, parity_judge_table, ParityCleared}
 use Rattle.parity.specs.Parity.{hrp_risk_lines, parity_table, parity_outcome, correlations_of, hrp_distances, hrp_rows, hrp_order, hrp_shares, ParityLaid, ParityAnswered}
 use Rattle.parity.specs.Inner.{ParitySized, ParityReady, ParityWorked}
-use Rattle.parity.proofs.Laws.{side_outcome, share_told, share_laid, seriated_laid}
+use Rattle.parity.proofs.Laws.{side_outcome, share_told, share_laid, seriated_laid, seriated_never}
+use Rattle.std.specs.Prelude.{Ok, Err}
 
 -- ---- the sizes
 
@@ -83,21 +81,21 @@ module _ (d : Distance) (cov : List Float) where
   parity_said rows w room = first_append (parity_judge_table (length cov) rows w room) (hrp_risk_lines d cov w)
 
   module _ (n : ℕ) where
-    risk_said : first (hrp_risk_lines d cov n) ≡ and_then (or_else (any_low cov n) NoData Done) (side_outcome cov n (hrp_order d cov n))
+    risk_said : first (hrp_risk_lines d cov n) ≡ and_then (or_else (any_low cov n) NoData (Ok tt)) (side_outcome cov n (hrp_order d cov n))
     unfolding hrp_risk_lines side_outcome hrp_shares
     risk_said = first_append ((any_low cov n, NoData) ∷ []) _ ∙ ap (λ (o : Outcome). and_then o (side_outcome cov n (hrp_order d cov n))) (simp (table, table_end))
 
     -- ---- the ways out of `work`
 
     module _ (said : Outcome) (room : ParityRoom) (rows order : List ℕ) (weights correlations distances scratch : List Float) where
-      pub worked_refused : (k : Refusal) → said ≡ Refused k → ParityWorked said d cov n room said rows order weights correlations distances scratch
-      worked_refused k h = record { answer = h ∙ sym (then_refused _ _ k h); filled = λ g. absurd (done_refused k (sym g ∙ h)) }
+      pub worked_refused : (k : Refusal) → said ≡ Err k → ParityWorked said d cov n room (Err k) rows order weights correlations distances scratch
+      worked_refused k h = record { answer = sym (then_refused _ _ k h); filled = λ g. absurd (done_refused k (sym g)) }
 
-      pub worked_low : (r : Outcome) (k : Refusal) → said ≡ Done → r ≡ or_else (any_low cov n) NoData Done → r ≡ Refused k → ParityWorked said d cov n room r rows order weights correlations distances scratch
-      worked_low r k s e h =
+      pub worked_low : (k : Refusal) → said ≡ Ok tt → Err k ≡ or_else (any_low cov n) NoData (Ok tt) → ParityWorked said d cov n room (Err k) rows order weights correlations distances scratch
+      worked_low k s e =
           record {
-            answer = h ∙ sym (then_done _ _ s ∙ risk_said ∙ then_refused _ _ k (sym e ∙ h));
-            filled = λ g. absurd (done_refused k (sym g ∙ h));
+            answer = sym (then_done _ _ s ∙ risk_said ∙ then_refused _ _ k (sym e));
+            filled = λ g. absurd (done_refused k (sym g));
           }
 
       -- mid is the part that comes back, rest what lies past it
@@ -116,20 +114,31 @@ module _ (d : Distance) (cov : List Float) where
         unfolding hrp_order
         order_is = front ∙ ap (λ (x : List Float). tree_order Hrp d Single x n) q
 
-        pub worked_done : (low r : Outcome) (a : Answer) → said ≡ Done → low ≡ or_else (any_low cov n) NoData Done → low ≡ Done
+        -- neither the tree nor what is ordered as its leaves is refused
+        pub arranged_never : (k : Refusal) → said₁ ≡ Err k → ⊥
+        arranged_never k h = done_refused k (sym (t.answer ∙ arrange_passes corr n n _ (arrangeable (length cov) n room corr part p e f)) ∙ h)
+
+        pub alike_never : (x : ℕ) → n * n ≤ x → (a : Answer) → a ≡ seriate_answer corr n n (take n order) x → (k : Refusal) → a ≡ Err k → ⊥
+        alike_never x y a g k h = seriated_never n p.few corr (take n order) e each x y a g k h
+
+        pub far_never : (x : ℕ) → n * n ≤ x → (a : Answer) → a ≡ seriate_answer (take (n * n) (mid ++ rest)) n n (take n order) x → (k : Refusal) → a ≡ Err k → ⊥
+        far_never x y a g k h =
+            seriated_never n p.few (take (n * n) (mid ++ rest)) (take n order) (ap length far ∙ length_distances Hrp d Single corr n) each x y a g k h
+
+        pub worked_done : (r : Outcome) (a : Answer) → said ≡ Ok tt → Ok tt ≡ or_else (any_low cov n) NoData (Ok tt)
             → correlations ≡ seriated corr n n (take n order) room.correlations → (x : ℕ) → x ≡ room.distances → distances ≡ seriated (take (n * n) (mid ++ rest)) n n (take n order) x → (s : ℕ) → s ≡ room.scratch → scratch ≡ zeros s
             → a ≡ bisection_answer cov n n (take n order) room.weights → r ≡ told_of a → weights ≡ bisection_weights cov n n (take n order) room.weights
             → ParityWorked said d cov n room r rows order weights correlations distances scratch
         unfolding hrp_rows hrp_order hrp_shares hrp_distances
-        worked_done low r a u v w c1 x y c2 s z zs b rt ws =
+        worked_done r a u v c1 x y c2 s z zs b rt ws =
             let done = arrange_passes corr n n _ (arrangeable (length cov) n room corr part p e f) in
             let side : r ≡ side_outcome cov n (take n order) = share_told n p.some p.few cov p.cells (take n order) each room.weights p.for_weights a r b rt in
             record {
-              answer = side ∙ ap (side_outcome cov n) order_is ∙ sym (then_done _ _ u ∙ risk_said ∙ then_done _ _ (sym v ∙ w));
+              answer = side ∙ ap (side_outcome cov n) order_is ∙ sym (then_done _ _ u ∙ risk_said ∙ then_done _ _ (sym v));
               filled = λ g. record {
                 rows_are = t.rows_are ∙ rw (done, q);
                 order_is = t.order_is ∙ rw (done, q);
-                weights_are = share_laid n p.some p.few cov p.cells (take n order) each room.weights p.for_weights weights ws (sym side ∙ g) ∙ ap (λ (x : List ℕ). laid pz Done room.weights (weights_in (bisection_shares cov n x))) order_is;
+                weights_are = share_laid n p.some p.few cov p.cells (take n order) each room.weights p.for_weights weights ws (sym side ∙ g) ∙ ap (λ (x : List ℕ). laid pz (Ok tt) room.weights (weights_in (bisection_shares cov n x))) order_is;
                 correlations_are = seriated_laid n p.few corr (take n order) correlations e each room.correlations p.for_correlations c1 ∙ rw (order_is, q);
                 distances_are = seriated_laid n p.few (take (n * n) (mid ++ rest)) (take n order) distances (ap length far ∙ length_distances Hrp d Single corr n) each room.distances p.for_distances (c2 ∙ ap (seriated (take (n * n) (mid ++ rest)) n n (take n order)) y) ∙ rw (order_is, far, q);
                 scratch_is = zs ∙ ap zeros z;
@@ -139,7 +148,7 @@ module _ (d : Distance) (cov : List Float) where
     -- ---- the buffers after a refusal
 
     pub laid_cleared : (o : Outcome) (room : ParityRoom) (rows order : List ℕ) (weights correlations distances scratch : List Float) (k : Refusal)
-        → o ≡ Refused k → ParityCleared room rows order weights correlations distances scratch → ParityLaid o d cov n room rows order weights correlations distances scratch
+        → o ≡ Err k → ParityCleared room rows order weights correlations distances scratch → ParityLaid o d cov n room rows order weights correlations distances scratch
     laid_cleared o room rows order weights correlations distances scratch k e z =
         record {
           rows_are = z.shared.rows_are ∙ laid_refused 0 o k _ _ e;
@@ -165,14 +174,14 @@ module _ (d : Distance) (cov : List Float) (rows_in w : ℕ) (room : ParityRoom)
   answer_is : r ≡ and_then said (first (hrp_risk_lines d cov w)) → r ≡ parity_outcome d cov rows_in w room
   answer_is a = a ∙ ap (λ (o : Outcome). and_then o (first (hrp_risk_lines d cov w))) e ∙ sym (parity_said d cov rows_in w room)
 
-  pub answered_refused : (k : Refusal) (rows₁ order₁ : List ℕ) (weights₁ correlations₁ distances₁ scratch₁ : List Float) → ParityWorked said d cov w room r rows₁ order₁ weights₁ correlations₁ distances₁ scratch₁ → r ≡ Refused k
+  pub answered_refused : (k : Refusal) (rows₁ order₁ : List ℕ) (weights₁ correlations₁ distances₁ scratch₁ : List Float) → ParityWorked said d cov w room r rows₁ order₁ weights₁ correlations₁ distances₁ scratch₁ → r ≡ Err k
       → ParityCleared room rows order weights correlations distances scratch → ParityAnswered d cov rows_in w room r rows order weights correlations distances scratch
   answered_refused k rows₁ order₁ weights₁ correlations₁ distances₁ scratch₁ a h z =
       let t = answer_is a.answer in
       record { answer = t; buffers = laid_cleared d cov w _ room rows order weights correlations distances scratch k (sym t ∙ h) z }
 
-  pub answered_done : ParityWorked said d cov w room r rows order weights correlations distances scratch → r ≡ Done → ParityAnswered d cov rows_in w room r rows order weights correlations distances scratch
+  pub answered_done : ParityWorked said d cov w room r rows order weights correlations distances scratch → r ≡ Ok tt → ParityAnswered d cov rows_in w room r rows order weights correlations distances scratch
   answered_done a h =
       let t = answer_is a.answer in
-      let q : parity_outcome d cov rows_in w room ≡ Done = sym t ∙ h in
+      let q : parity_outcome d cov rows_in w room ≡ (Ok tt) = sym t ∙ h in
       record { answer = t; buffers = rw q (a.filled h) }

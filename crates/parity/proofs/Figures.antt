@@ -10,9 +10,7 @@ use Rattle.arithmetic.specs.Constants.{pz}
 use Rattle.arithmetic.specs.Arithmetic.{min_of, max_of, abs_of, clamp_of}
 use Rattle.arithmetic.specs.Root.{isqrt, root}
 use Rattle.refusal.specs.Refusal.{number_of}
-use Rattle.refusal.specs.Table.{first}
-use Rattle.refusal.specs.declared.Outcome.{Outcome}
-use Rattle.refusal.specs.declared.Outcome.TheVariants as outcome
+use Rattle.refusal.specs.Table.{first, Outcome}
 use Rattle.lent.specs.Grid.{tab, grid, sum_to, sum_on, sum_rows, any_to}
 use Rattle.lent.specs.Range.{span, range}
 use Rattle.lent.specs.Lent.{over_limit, other_length, sizes, laid}
@@ -28,6 +26,7 @@ use Rattle.clusters.specs.Clusters.{recip, recip_sum, shares, term, variance_of,
 use Rattle.clusters.specs.Shares.{is_none, weights_in}
 use Rattle.bisection.specs.Bisection.{factor_of, sides_factor, halved, bisected, normal, bisection_shares}
 use Rattle.parity.specs.Parity.{ParityRoom, correlations_of, hrp_distances, tree_distances, hrp_rows, hrp_order, hrp_shares, seriated_in, parity_room_lines, parity_judge_table, hrp_risk_lines, parity_table, parity_outcome, room_lines, square_lines}
+use Rattle.std.specs.Prelude.{Ok, Err}
 
 abbrev all : List Bool → Bool
 all [] = true
@@ -49,8 +48,8 @@ bits (x ∷ l) = to_bits binary64 x ∷ bits l
 
 -- 0, or the refusal's number
 abbrev number : Outcome → ℕ
-number outcome.Done = 0
-number (outcome.Refused r) = number_of r
+number (Ok _) = 0
+number (Err r) = number_of r
 
 -- the number of n assets in buffers of just the sizes asked, and the bits of the weights
 abbrev room : ℕ → ParityRoom

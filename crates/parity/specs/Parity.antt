@@ -1,9 +1,8 @@
 -- HRP on a covariance of n assets: the tree, its leaf order, both seriated matrices and the weights. Definitions only.
 use Rattle.std.specs.Prelude.{ℕ, ◌≡◌, List, [], ◌∷◌, ◌++◌, length, Float}
 use Rattle.arithmetic.specs.Constants.{pz}
-use Rattle.refusal.specs.Table.{Line, first}
+use Rattle.refusal.specs.Table.{Line, first, Outcome}
 use Rattle.refusal.specs.declared.Refusal.TheVariants.{NoData}
-use Rattle.refusal.specs.declared.Outcome.{Outcome}
 use Rattle.lent.specs.Grid.{grid, zeros}
 use Rattle.lent.specs.Lent.{laid}
 use Rattle.stats.specs.Covariance.{any_low}

@@ -2,18 +2,19 @@
 #![tactic(auto)]
 
 ghost use Rattle.std.specs.Prelude.{length};
-ghost use Rattle.parity.specs.Parity.{ParityAnswered};
-ghost use Rattle.parity.specs.Inner.{ParityReady, ParityWorked};
+ghost use Rattle.refusal.specs.Table.{first};
+ghost use Rattle.parity.specs.Parity.{parity_judge_table, ParityAnswered};
+ghost use Rattle.parity.specs.Inner.{ParityWorked};
 
 use distances::Measure;
 use linkage::{Distance, Linkage};
-use refusal::Outcome;
+use refusal::Refusal;
 
-// All the steps, unless something is refused before: a variance is refused by the correlations, a side by the weights.
+// All the steps: a variance is refused by the correlations, a side by the weights. After a refusal the buffers hold what was worked out before it.
 fn work(
-    said: Outcome,
     distance: Distance,
     covariance: &[f64],
+    rows_in: usize,
     n: usize,
     rows: &mut [usize],
     order: &mut [usize],
@@ -21,8 +22,9 @@ fn work(
     correlations: &mut [f64],
     distances: &mut [f64],
     scratch: &mut [f64],
-) -> Outcome
-    requires { ParityReady said (length covariance.now) n
+) -> Result<(), Refusal>
+    ensures { ParityWorked
+        (first (parity_judge_table (length covariance.now) rows_in n
         (record {
           rows = length rows.old;
           order = length order.old;
@@ -30,8 +32,8 @@ fn work(
           correlations = length correlations.old;
           distances = length distances.old;
           scratch = length scratch.old;
-        }) }
-    ensures { ParityWorked said distance covariance.now n
+        })))
+        distance covariance.now n
         (record {
           rows = length rows.old;
           order = length order.old;
@@ -42,14 +44,19 @@ fn work(
         })
         result rows.new order.new weights.new correlations.new distances.new scratch.new }
 {
-    let Outcome::Done = said else {
-        return said;
-    };
+    rooms::judge_covariance(
+        covariance.len(),
+        rows_in,
+        n,
+        rows.len(),
+        order.len(),
+        weights.len(),
+        correlations.len(),
+        distances.len(),
+        scratch.len(),
+    )?;
     // the correlations wait where the distances are laid at last
-    let low = lent::told(stats::cov2corr(covariance, n, n, distances));
-    let Outcome::Done = low else {
-        return low;
-    };
+    stats::cov2corr(covariance, n, n, distances)?;
     let m = n * n;
     let alike = &distances[..m];
     arranging::arrange(
@@ -62,13 +69,14 @@ fn work(
         rows,
         order,
         &mut scratch[..m],
-    );
+    )?;
     let leaves = &order[..n];
     let far = &scratch[..m];
-    tree::seriate_matrix(alike, n, n, leaves, correlations);
-    tree::seriate_matrix(far, n, n, leaves, distances);
+    tree::seriate_matrix(alike, n, n, leaves, correlations)?;
+    tree::seriate_matrix(far, n, n, leaves, distances)?;
     lent::clear(scratch); // the distances were in it
-    lent::told(bisection::recursive_bisection_min_var(covariance, n, n, leaves, weights))
+    bisection::recursive_bisection_min_var(covariance, n, n, leaves, weights)?;
+    Ok(())
 }
 
 // The weights of a covariance of as many assets as it has columns, with their tree, its leaf order and both matrices in that order.
@@ -83,7 +91,7 @@ pub fn allocate_covariance(
     seriated_correlations: &mut [f64],
     seriated_distances: &mut [f64],
     scratch: &mut [f64],
-) -> Outcome
+) -> Result<(), Refusal>
     ensures { ParityAnswered distance covariance.now rows_in columns
         (record {
           rows = length rows.old;
@@ -95,21 +103,10 @@ pub fn allocate_covariance(
         })
         result rows.new order.new weights.new seriated_correlations.new seriated_distances.new scratch.new }
 {
-    let said = rooms::judge_covariance(
-        covariance.len(),
-        rows_in,
-        columns,
-        rows.len(),
-        order.len(),
-        weights.len(),
-        seriated_correlations.len(),
-        seriated_distances.len(),
-        scratch.len(),
-    );
-    let said = work(
-        said,
+    if let Err(refused) = work(
         distance,
         covariance,
+        rows_in,
         columns,
         rows,
         order,
@@ -117,8 +114,7 @@ pub fn allocate_covariance(
         seriated_correlations,
         seriated_distances,
         scratch,
-    );
-    let Outcome::Done = said else {
+    ) {
         rooms::clear_with_matrices(
             rows,
             order,
@@ -127,7 +123,7 @@ pub fn allocate_covariance(
             seriated_distances,
             scratch,
         );
-        return said;
-    };
-    said
+        return Err(refused);
+    }
+    Ok(())
 }

@@ -9,10 +9,8 @@ use borrow.Author.Tests.{leb-true, eq-eqb}
 use lib.Dec.{eqb, leb, ltb}
 use lib.ListN.{length, get_or, drop, length-drop}
 use lib.Seq.{get_or-drop, get_or-take, drop-drop}
-use Rattle.refusal.specs.Table.{first}
+use Rattle.refusal.specs.Table.{first, Outcome}
 use Rattle.refusal.specs.declared.Refusal.{Refusal}
-use Rattle.refusal.specs.declared.Outcome.{Outcome}
-use Rattle.refusal.specs.declared.Outcome.TheVariants as outcome
 use Rattle.lent.specs.Grid.{tab}
 use Rattle.lent.proofs.Laws.{either, length_tab, get_d_tab}
 use Rattle.text.specs.Bytes.{bytes, same}
@@ -21,19 +19,20 @@ use Rattle.fields.proofs.Every.{both_left, both_right, three_yes, all_at}
 use Rattle.fields.proofs.Pieces.{piece_upto}
 use Rattle.ceilings.specs.Figures.{are_unlike}
 use Rattle.heading.specs.Heading.{field, fields_in, head_of}
-use Rattle.heading.specs.declared.Heading.{Heading}
-use Rattle.heading.specs.declared.Heading.TheVariants as heading
 use Rattle.linkage.specs.declared.Distance.{Distance}
 use Rattle.linkage.specs.declared.Linkage.{Linkage}
 use Rattle.names.specs.Names.{in_name, is_name, name_from}
 use Rattle.reading.specs.Reading.{lines, rest, line, priced, ceiled, head_in, rows_in, assets, is_asset, is_names, is_covariance, is_prices, is_block, is_job, name_of, start_of, name_start, starts_in, text_ceiling, ceilings_in, text_lines, ReadRoom, read_outcome, job_of, block_in, job_in, read_as, read_of}
 use Rattle.reading.specs.declared.Block.{Block}
-use Rattle.reading.specs.declared.Reading.{Reading}
-use Rattle.reading.specs.declared.Reading.TheVariants as reading
 use Rattle.reading.proofs.Starts.{start_in, piece_at}
 use Rattle.reading.proofs.Table.{within, ends, block_good, done_job, done_within, kept}
 use Rattle.reading.proofs.Blocks.{head_by, rows_by}
 use Rattle.reading.proofs.Answer.{outcome_done, refused_is}
+use Rattle.std.specs.Prelude.{Ok, Err}
+use Rattle.heading.specs.Outcomes.{Heading}
+use Rattle.reading.specs.Outcomes.{Reading}
+use Rattle.heading.specs.declared.Task.TheVariants as task
+use Rattle.reading.specs.declared.Job.TheVariants as jobs
 
 -- what stands before the first d, from a place in it on
 upto_drop : (d : ℕ) (s : List ℕ) (b : ℕ) → b ≤ length (first_piece d s) → first_piece d (drop b s) ≡ drop b (first_piece d s)
@@ -182,9 +181,9 @@ pub record Accepted (text : List ℕ) : Type 0 where
   -- "0 to 64 assets", and 4,096 cells
   pub few : assets text ≤ 64
   pub cells_few : rows_in text * assets text ≤ 4096
-  pub tabled : first (text_lines text) ≡ outcome.Done
+  pub tabled : first (text_lines text) ≡ Ok tt
 
-pub accepted : (text : List ℕ) (room : ReadRoom) → read_outcome text room ≡ outcome.Done → Accepted text
+pub accepted : (text : List ℕ) (room : ReadRoom) → read_outcome text room ≡ Ok tt → Accepted text
 accepted text room e =
     let p = outcome_done text room e in
     let j = done_job text p.1 in
@@ -233,42 +232,42 @@ answered text b asked e h = record {
   limits = ap (λ (x : Block). x.ceiled) e;
 }
 
-of_hrp : (a : Block) (h : Heading) (b : Block) (d : Distance) → job_of a h ≡ reading.Hrp b d → (b ≡ a) × (h ≡ heading.Hrp d)
-of_hrp a (heading.Refused r) b d e = absurd (let z : ◌≡◌ {A = ℕ} 0 1 = cc in omega arith)
-of_hrp a (heading.Hrp f) b d e = (cc, cc)
-of_hrp a (heading.Hcaa l f) b d e = absurd (let z : ◌≡◌ {A = ℕ} 0 1 = cc in omega arith)
+of_hrp : (a : Block) (h : Heading) (b : Block) (d : Distance) → job_of a h ≡ Ok (jobs.Hrp b d) → (b ≡ a) × (h ≡ Ok (task.Hrp d))
+of_hrp a (Err r) b d e = absurd (let z : ◌≡◌ {A = ℕ} 0 1 = cc in omega arith)
+of_hrp a (Ok (task.Hrp f)) b d e = (cc, cc)
+of_hrp a (Ok (task.Hcaa l f)) b d e = absurd (let z : ◌≡◌ {A = ℕ} 0 1 = cc in omega arith)
 
-of_hcaa : (a : Block) (h : Heading) (b : Block) (l : Linkage) (d : Distance) → job_of a h ≡ reading.Hcaa b l d → (b ≡ a) × (h ≡ heading.Hcaa l d)
-of_hcaa a (heading.Refused r) b l d e = absurd (let z : ◌≡◌ {A = ℕ} 0 1 = cc in omega arith)
-of_hcaa a (heading.Hrp f) b l d e = absurd (let z : ◌≡◌ {A = ℕ} 0 1 = cc in omega arith)
-of_hcaa a (heading.Hcaa k f) b l d e = (cc, cc)
+of_hcaa : (a : Block) (h : Heading) (b : Block) (l : Linkage) (d : Distance) → job_of a h ≡ Ok (jobs.Hcaa b l d) → (b ≡ a) × (h ≡ Ok (task.Hcaa l d))
+of_hcaa a (Err r) b l d e = absurd (let z : ◌≡◌ {A = ℕ} 0 1 = cc in omega arith)
+of_hcaa a (Ok (task.Hrp f)) b l d e = absurd (let z : ◌≡◌ {A = ℕ} 0 1 = cc in omega arith)
+of_hcaa a (Ok (task.Hcaa k f)) b l d e = (cc, cc)
 
-as_hrp : (o : Outcome) (j : Reading) (b : Block) (d : Distance) → read_as o j ≡ reading.Hrp b d → (o ≡ outcome.Done) × (j ≡ reading.Hrp b d)
-as_hrp outcome.Done j b d e = (refl, e)
-as_hrp (outcome.Refused r) j b d e = absurd (let z : ◌≡◌ {A = ℕ} 0 1 = cc in omega arith)
+as_hrp : (o : Outcome) (j : Reading) (b : Block) (d : Distance) → read_as o j ≡ Ok (jobs.Hrp b d) → (o ≡ Ok tt) × (j ≡ Ok (jobs.Hrp b d))
+as_hrp (Ok _) j b d e = (refl, e)
+as_hrp (Err r) j b d e = absurd (let z : ◌≡◌ {A = ℕ} 0 1 = cc in omega arith)
 
-as_hcaa : (o : Outcome) (j : Reading) (b : Block) (l : Linkage) (d : Distance) → read_as o j ≡ reading.Hcaa b l d → (o ≡ outcome.Done) × (j ≡ reading.Hcaa b l d)
-as_hcaa outcome.Done j b l d e = (refl, e)
-as_hcaa (outcome.Refused r) j b l d e = absurd (let z : ◌≡◌ {A = ℕ} 0 1 = cc in omega arith)
+as_hcaa : (o : Outcome) (j : Reading) (b : Block) (l : Linkage) (d : Distance) → read_as o j ≡ Ok (jobs.Hcaa b l d) → (o ≡ Ok tt) × (j ≡ Ok (jobs.Hcaa b l d))
+as_hcaa (Ok _) j b l d e = (refl, e)
+as_hcaa (Err r) j b l d e = absurd (let z : ◌≡◌ {A = ℕ} 0 1 = cc in omega arith)
 
 -- a job of the text is of its block
-pub job_hrp : (text : List ℕ) (b : Block) (d : Distance) → job_in text ≡ reading.Hrp b d → Answered text b (heading.Hrp d)
+pub job_hrp : (text : List ℕ) (b : Block) (d : Distance) → job_in text ≡ Ok (jobs.Hrp b d) → Answered text b (Ok (task.Hrp d))
 unfolding job_in
-job_hrp text b d e = let y = of_hrp (block_in text) (head_of (line text 0)) b d e in answered text b (heading.Hrp d) y.0 y.1
+job_hrp text b d e = let y = of_hrp (block_in text) (head_of (line text 0)) b d e in answered text b (Ok (task.Hrp d)) y.0 y.1
 
-pub job_hcaa : (text : List ℕ) (b : Block) (l : Linkage) (d : Distance) → job_in text ≡ reading.Hcaa b l d → Answered text b (heading.Hcaa l d)
+pub job_hcaa : (text : List ℕ) (b : Block) (l : Linkage) (d : Distance) → job_in text ≡ Ok (jobs.Hcaa b l d) → Answered text b (Ok (task.Hcaa l d))
 unfolding job_in
-job_hcaa text b l d e = let y = of_hcaa (block_in text) (head_of (line text 0)) b l d e in answered text b (heading.Hcaa l d) y.0 y.1
+job_hcaa text b l d e = let y = of_hcaa (block_in text) (head_of (line text 0)) b l d e in answered text b (Ok (task.Hcaa l d)) y.0 y.1
 
 module _ (text : List ℕ) (room : ReadRoom) where
-  pub read_hrp : (b : Block) (d : Distance) → read_of text room ≡ reading.Hrp b d → (read_outcome text room ≡ outcome.Done) × (job_in text ≡ reading.Hrp b d)
+  pub read_hrp : (b : Block) (d : Distance) → read_of text room ≡ Ok (jobs.Hrp b d) → (read_outcome text room ≡ Ok tt) × (job_in text ≡ Ok (jobs.Hrp b d))
   unfolding read_of
   read_hrp b d e = as_hrp (read_outcome text room) (job_in text) b d e
 
-  pub read_hcaa : (b : Block) (l : Linkage) (d : Distance) → read_of text room ≡ reading.Hcaa b l d → (read_outcome text room ≡ outcome.Done) × (job_in text ≡ reading.Hcaa b l d)
+  pub read_hcaa : (b : Block) (l : Linkage) (d : Distance) → read_of text room ≡ Ok (jobs.Hcaa b l d) → (read_outcome text room ≡ Ok tt) × (job_in text ≡ Ok (jobs.Hcaa b l d))
   unfolding read_of
   read_hcaa b l d e = as_hcaa (read_outcome text room) (job_in text) b l d e
 
-  pub read_refused : (k : Refusal) → read_of text room ≡ reading.Refused k → read_outcome text room ≡ outcome.Refused k
+  pub read_refused : (k : Refusal) → read_of text room ≡ Err k → read_outcome text room ≡ Err k
   unfolding read_of
   read_refused k e = refused_is (read_outcome text room) (job_in text) k (λ h. let a = accepted text room h in kept text a.job a.tabled) e

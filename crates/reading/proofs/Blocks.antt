@@ -20,9 +20,11 @@ use Rattle.decimals.specs.Decimal.{cell_of}
 use Rattle.heading.specs.Heading.{field, fields_in}
 use Rattle.reading.specs.Reading.{lines, line, rest, priced, ceiled, head_in, rows_in, assets, is_day, is_names, text_cell, cells_in, start_of, name_start, starts_in, is_over}
 use Rattle.reading.specs.Inner.{cell_at, is_named, is_line, cell_fields, are_named, line_cell, LinesAsked, LinesRead, NamesRead, has_rows, found_in, BlockAsked, DaysAsked, BlockRead}
-use Rattle.reading.specs.declared.Found.TheVariants as found
 use Rattle.reading.proofs.Starts.{piece_within, piece_cut, start_next}
 use Rattle.reading.proofs.Table.{within, ends}
+use Rattle.std.specs.Prelude.{Some, None}
+use Rattle.reading.specs.Outcomes.{Found, extent}
+use Rattle.std.specs.Bool.{then_some}
 
 pub all_ext : (f g : List ℕ → Bool) → ((w : List ℕ) → f w ≡ g w) → (l : List (List ℕ)) → all f l ≡ all g l
 unfolding all
@@ -50,6 +52,10 @@ names_true {l} {at} {r} {starts} h e = subst (λ (b : Bool). NamesRead l at b st
 pub put_none : (l m : List ℕ) → length l ≡ 0 → l ++ drop 0 m ≡ m
 put_none [] m e = refl
 put_none (a ∷ l) m e = absurd (omega arith)
+
+-- a block by the test of its lines
+block_is : {text : List ℕ} {o p : Found} {cells : List Float} {starts : List ℕ} {cells' : List Float} {starts' : List ℕ} → o ≡ p → BlockRead text p cells starts cells' starts' → BlockRead text o cells starts cells' starts'
+block_is e b = record { told = e ∙ b.told; held = b.held }
 
 -- ---- how much of a row is held
 
@@ -158,15 +164,15 @@ module _ (text : List ℕ) where
       ∙ ap (λ (j : ℕ). none && (leb (head_in text) (length ws) && (is_names (line text 1) && all (is_day j) (drop (head_in text) ws)))) q
       ∙ ap (λ (j : ℕ). none && (leb j (length ws) && (is_names (line text 1) && all (is_day n) (drop j ws)))) m
 
-  block_told : (n rows : ℕ) → has_rows text ≡ true → assets text ≡ n → rows_in text ≡ rows → found.Of n rows ≡ found_in text
+  block_told : (n rows : ℕ) → has_rows text ≡ true → assets text ≡ n → rows_in text ≡ rows → Some (extent n rows) ≡ found_in text
   unfolding found_in
   block_told n rows g p q =
       sym
-      (ap (λ (b : Bool). cond b (found.Of (assets text) (rows_in text)) found.Malformed) g
-      ∙ ap (λ (k : ℕ). found.Of k (rows_in text)) p
-      ∙ ap (λ (k : ℕ). found.Of n k) q)
+      (ap (λ (b : Bool). cond b (Some (extent (assets text) (rows_in text))) None) g
+      ∙ ap (λ (k : ℕ). Some (extent k (rows_in text))) p
+      ∙ ap (λ (k : ℕ). Some (extent n k)) q)
 
-  block_none : has_rows text ≡ false → (cells : List Float) (starts : List ℕ) (cells' : List Float) (starts' : List ℕ) → BlockRead text found.Malformed cells starts cells' starts'
+  block_none : has_rows text ≡ false → (cells : List Float) (starts : List ℕ) (cells' : List Float) (starts' : List ℕ) → BlockRead text None cells starts cells' starts'
   unfolding found_in
   block_none e cells starts cells' starts' = record {
     told = rw e;
@@ -217,10 +223,10 @@ module _ (text : List ℕ) where
       }
 
       module _ (r : Bool) (cells : List Float) (part starts : List ℕ) (cells' : List Float) (part' : List ℕ) (sized : length part ≡ w) (was : LinesRead text 1 n (n + more) w r cells part cells' part') where
-        pub covariance_bad : r ≡ false → (starts' : List ℕ) → BlockRead text found.Malformed cells starts cells' starts'
+        covariance_bad : r ≡ false → (starts' : List ℕ) → BlockRead text None cells starts cells' starts'
         covariance_bad e starts' = block_none (covariance_is ∙ sym was.told ∙ e) cells starts cells' starts'
 
-        pub covariance_good : r ≡ true → BlockRead text (found.Of n n) cells starts cells' (part' ++ drop w starts)
+        covariance_good : r ≡ true → BlockRead text (Some (extent n n)) cells starts cells' (part' ++ drop w starts)
         covariance_good e =
             let g : has_rows text ≡ true = covariance_is ∙ sym was.told ∙ e in
             let p : part' ≡ tab w (λ (i : ℕ). start_of 10 text (i + 1)) = was.placed e ∙ ap (λ (k : ℕ). tab k (λ (i : ℕ). start_of 10 text (i + 1))) sized in
@@ -237,6 +243,13 @@ module _ (text : List ℕ) where
                   };
             }
 
+        pub covariance_told : (o : Found) → o ≡ then_some r (extent n n) → BlockRead text o cells starts cells' (part' ++ drop w starts)
+        covariance_told o e =
+            ⊎_elim
+            (λ y. block_is (e ∙ ap (λ (t : Bool). then_some t (extent n n)) y) (covariance_good y))
+            (λ f. block_is (e ∙ ap (λ (t : Bool). then_some t (extent n n)) f) (covariance_bad f (part' ++ drop w starts)))
+            (either r)
+
   -- ---- prices: a first line, a line of names, one of ceilings where there are any, a line for each day, and nothing after them
 
   module _ (more count from room places : ℕ) (asked : BlockAsked text from count true more room places) where
@@ -251,7 +264,7 @@ module _ (text : List ℕ) where
         priced_has (assets text) (2 + more) asked.kind refl prices_head
         ∙ rw (lt-leb (2 + more) (length (lines text)) (omega (arith, ends text, asked.cut))) (and-false (eqb (length (rest text)) 0))
 
-    pub prices_none : count < 2 + more → (cells : List Float) (starts : List ℕ) → BlockRead text found.Malformed cells starts cells starts
+    pub prices_none : count < 2 + more → (cells : List Float) (starts : List ℕ) → BlockRead text None cells starts cells starts
     prices_none h cells starts = block_none (prices_short h) cells starts cells starts
 
     -- a day's line has no name
@@ -275,7 +288,7 @@ module _ (text : List ℕ) where
           ∙ ap (λ (b : Bool). eqb (length (rest text)) 0 && (is_names (line text 1) && b)) f
 
       pub names_wrong : is_names (line text 1) ≡ false → (cells : List Float) (starts : List ℕ) (cells' : List Float) (starts' : List ℕ)
-          → BlockRead text found.Malformed cells starts cells' starts'
+          → BlockRead text None cells starts cells' starts'
       names_wrong e = block_none (names_then ∙ rw e (and-false (eqb (length (rest text)) 0)))
 
       prices_cells : grid (count - (2 + more)) n (line_cell text (2 + more)) ≡ cells_in text
@@ -341,10 +354,10 @@ module _ (text : List ℕ) where
             days_then : has_rows text ≡ r
             days_then = names_then ∙ rw names_right (sym was.told)
 
-            pub prices_bad : r ≡ false → (starts' : List ℕ) → BlockRead text found.Malformed cells starts cells' starts'
+            prices_bad : r ≡ false → (starts' : List ℕ) → BlockRead text None cells starts cells' starts'
             prices_bad e starts' = block_none (days_then ∙ e) cells starts cells' starts'
 
-            pub prices_good : r ≡ true → (starts' : List ℕ) → starts' ≡ part ++ drop w starts → BlockRead text (found.Of n (count - (2 + more))) cells starts cells' starts'
+            prices_good : r ≡ true → (starts' : List ℕ) → starts' ≡ part ++ drop w starts → BlockRead text (Some (extent n (count - (2 + more)))) cells starts cells' starts'
             unfolding name_starts
             prices_good e starts' put =
                 let g : has_rows text ≡ true = days_then ∙ e in
@@ -361,3 +374,10 @@ module _ (text : List ℕ) where
                             ∙ ap (λ (x : List ℕ). over x starts) prices_starts;
                       };
                 }
+
+            pub prices_told : (o : Found) → o ≡ then_some r (extent n (count - (2 + more))) → (starts' : List ℕ) → starts' ≡ part ++ drop w starts → BlockRead text o cells starts cells' starts'
+            prices_told o e starts' put =
+                ⊎_elim
+                (λ y. block_is (e ∙ ap (λ (t : Bool). then_some t (extent n (count - (2 + more)))) y) (prices_good y starts' put))
+                (λ f. block_is (e ∙ ap (λ (t : Bool). then_some t (extent n (count - (2 + more)))) f) (prices_bad f starts'))
+                (either r)

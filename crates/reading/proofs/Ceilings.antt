@@ -13,8 +13,6 @@ use Rattle.lent.specs.Count.{one}
 use Rattle.lent.specs.Grid.{tab, over}
 use Rattle.lent.proofs.Laws.{either, tab_ext, over_none, length_tab}
 use Rattle.fields.specs.Split.{split, piece, first_piece, end_of, all}
-use Rattle.fields.specs.declared.Numeral.{Numeral}
-use Rattle.fields.specs.declared.Numeral.TheVariants as numeral
 use Rattle.fields.proofs.Every.{all_end, all_yes, all_no}
 use Rattle.fields.proofs.Pieces.{length_onto}
 use Rattle.fields.proofs.Last.{last_whole}
@@ -28,6 +26,8 @@ use Rattle.reading.proofs.Front.{Front, front_start, front_end}
 use Rattle.reading.proofs.Table.{ends}
 use Rattle.reading.proofs.Blocks.{fields_are, front_put, assets_by, head_by, rows_by}
 use Rattle.reading.proofs.Limits.{ended, ceilings_by}
+use Rattle.std.specs.Prelude.{Some, None}
+use Rattle.fields.specs.Outcomes.{Numeral}
 
 -- ---- a walk over n pieces, the last field of each looked at
 
@@ -64,13 +64,13 @@ module _ {d : ℕ} {s : List ℕ} {n : ℕ} {ceilings₀ : List ℕ} {i at : ℕ
     in_list = omega (arith, length-take-le n (split d s) enough)
 
     module _ (v : List ℕ) (is_last : v ≡ last_field (take (e - at) (drop at s))) (r : Numeral) (is_read : r ≡ ceiling_read v) where
-      pub lasting_bad : (ceilings' : List ℕ) → r ≡ numeral.Malformed → LastRead d s n false ceilings'
+      pub lasting_bad : (ceilings' : List ℕ) → r ≡ None → LastRead d s n false ceilings'
       lasting_bad ceilings' c = record {
         told = sym (w.told ∙ all_no ended (take n (split d s)) i [] in_list (ap ended (sym cut) ∙ ap is_ceiling (sym is_last) ∙ ceiling_no v (sym is_read ∙ c)));
         placed = λ z. absurd (let y : ◌≡◌ {A = ℕ} 0 1 = cc in omega arith);
       }
 
-      module _ (k : ℕ) (c : r ≡ numeral.Of k) where
+      module _ (k : ℕ) (c : r ≡ Some k) where
         -- the ceiling read is the piece's
         pub ceiling_at_lem : k ≡ ceiling_of (last_field (piece d s i))
         ceiling_at_lem = (ceiling_yes v k (sym is_read ∙ c)).1 ∙ ap ceiling_of is_last ∙ ap (λ (t : List ℕ). ceiling_of (last_field t)) (piece_cut d s i there at e w.begun ends_at)

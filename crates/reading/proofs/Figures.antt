@@ -19,11 +19,12 @@ use Rattle.heading.specs.Heading.{clusters_of, prices_after, ceilings_after, is_
 use Rattle.linkage.specs.Names.{distance_named, linkage_named}
 use Rattle.linkage.specs.declared.Distance.{Distance}
 use Rattle.linkage.specs.declared.Distance.TheVariants.{Correlation, DistanceOfDistances}
-use Rattle.reading.specs.declared.Reading.{Reading}
 use Rattle.names.specs.Names.{is_name}
 use Rattle.reading.specs.Reading.{priced, ceiled, head_in, rows_in, assets, is_row, row_fields, is_asset, is_day, is_names, is_ceilings, is_covariance, is_prices, is_block, is_job, text_cell, cells_in, name_of, start_of, name_start, starts_in, text_ceiling, ceilings_in, is_over, text_lines, ReadRoom, read_table, read_outcome, block_in, job_in, read_of}
 use Rattle.reading.specs.declared.Block.{Block}
-use Rattle.reading.specs.declared.Reading.TheVariants as reading
+use Rattle.std.specs.Prelude.{Ok, Err}
+use Rattle.reading.specs.Outcomes.{Reading}
+use Rattle.reading.specs.declared.Job.TheVariants as kinds
 
 abbrev all : List Bool → Bool
 all [] = true
@@ -38,9 +39,9 @@ abbrev blocked : Block → ℕ
 blocked b = b.assets + cond b.ceiled 20000 0 + cond b.priced (10000 + b.rows * 100000) 0
 
 abbrev told : Reading → ℕ
-told (reading.Refused r) = number_of r
-told (reading.Hrp b d) = blocked b + metric d
-told (reading.Hcaa b m d) = blocked b + metric d + 1000
+told (Err r) = number_of r
+told (Ok (kinds.Hrp b d)) = blocked b + metric d
+told (Ok (kinds.Hcaa b m d)) = blocked b + metric d + 1000
 
 abbrev within : ℕ → ℕ → ℕ → ReadRoom
 within c s l = record { cells = c; starts = s; ceilings = l }

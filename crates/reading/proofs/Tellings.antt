@@ -4,19 +4,19 @@ use mathlib.Core.Path.{◌≡◌, refl, sym, ap, ◌∙◌}
 use mathlib.Core.List.{List}
 use Rattle.refusal.specs.Telling.{tells}
 use Rattle.refusal.specs.declared.Refusal.{Refusal}
-use Rattle.refusal.specs.declared.Outcome.{Outcome}
-use Rattle.refusal.specs.declared.Outcome.TheVariants as outcome
 use Rattle.refusal.proofs.Tables.{done_refused}
 use Rattle.reading.specs.Reading.{ReadRoom, read_outcome, job_in, read_as, read_of, reading_tells}
-use Rattle.reading.specs.declared.Reading.{Reading}
-use Rattle.reading.specs.declared.Reading.TheVariants as reading
 use Rattle.reading.proofs.Accepted.{read_refused}
+use Rattle.std.specs.Prelude.{Ok, Err}
+use Rattle.reading.specs.Outcomes.{Reading}
+use Rattle.refusal.specs.Table.{Outcome}
+use Rattle.reading.specs.declared.Job.TheVariants as jobs
 
-read_tells : (o : Outcome) (j : Reading) → ((k : Refusal) → o ≡ outcome.Done → j ≡ reading.Refused k → ⊥) → reading_tells (read_as o j) ≡ tells o j
-read_tells outcome.Done (reading.Refused k) h = absurd (h k refl refl)
-read_tells outcome.Done (reading.Hrp b d) h = refl
-read_tells outcome.Done (reading.Hcaa b l d) h = refl
-read_tells (outcome.Refused r) j h = refl
+read_tells : (o : Outcome) (j : Reading) → ((k : Refusal) → o ≡ Ok tt → j ≡ Err k → ⊥) → reading_tells (read_as o j) ≡ tells o j
+read_tells (Ok _) (Err k) h = absurd (h k refl refl)
+read_tells (Ok _) (Ok (jobs.Hrp b d)) h = refl
+read_tells (Ok _) (Ok (jobs.Hcaa b l d)) h = refl
+read_tells (Err r) j h = refl
 
 -- 0 and the job, or the number of what refuses the text
 pub reading_tells_lem : (text : List ℕ) (room : ReadRoom) → reading_tells (read_of text room) ≡ tells (read_outcome text room) (job_in text)

@@ -9,8 +9,6 @@ use lib.Dec.{eqb}
 use lib.ListN.{length, take, drop}
 use lib.Ieee.{Float, nan}
 use Rattle.fields.specs.Split.{split, piece, end_of, all}
-use Rattle.fields.specs.declared.Cell.{Cell}
-use Rattle.fields.specs.declared.Cell.TheVariants as cell
 use Rattle.fields.proofs.Every.{all_end, all_yes, all_no}
 use Rattle.decimals.specs.Decimal.{is_cell, cell_of, cell_read}
 use Rattle.decimals.proofs.Reading.{cell_no, cell_yes}
@@ -19,6 +17,8 @@ use Rattle.reading.specs.Reading.{is_row, is_names, start_of}
 use Rattle.reading.specs.Inner.{cell_at, RowRead, NamesRead}
 use Rattle.reading.proofs.Starts.{start_in, piece_within, piece_cut, start_next, there_is}
 use Rattle.reading.proofs.Front.{Front, front_start, front_end}
+use Rattle.std.specs.Prelude.{Some, None}
+use Rattle.fields.specs.Outcomes.{Cell}
 
 -- j fields of a line were looked at, each passed, and the next begins at `at`
 pub record Walk (test : List ℕ → Bool) (line : List ℕ) (j at : ℕ) : Type 0 where
@@ -74,14 +74,14 @@ rowing_start line row = record { walk = walk_start is_cell line; sized = refl; f
 
 module _ {line : List ℕ} {row₀ : List Float} {j at : ℕ} {row : List Float} (w : Rowing line row₀ j at row) where
   module _ (within : at ≤ length line) (e : ℕ) (ends : e ≡ end_of 9 line at) (r : Cell) (is_read : r ≡ cell_read (take (e - at) (drop at line))) where
-    pub row_bad : (n : ℕ) → r ≡ cell.Malformed → RowRead n line false row
+    pub row_bad : (n : ℕ) → r ≡ None → RowRead n line false row
     unfolding is_row
     row_bad n c = record {
       told = sym (rw (walk_bad w.walk within e ends (cell_no _ (sym is_read ∙ c))) (and-false (eqb (length (split 9 line)) n)));
       cells = λ z. absurd (let y : ◌≡◌ {A = ℕ} 0 1 = cc in omega arith);
     }
 
-    module _ (v : Float) (c : r ≡ cell.Of v) where
+    module _ (v : Float) (c : r ≡ Some v) where
       -- the cell read is the field's
       pub cell_is : v ≡ cell_at (split 9 line) j
       unfolding cell_at

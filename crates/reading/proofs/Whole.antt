@@ -9,10 +9,9 @@ use borrow.Author.Tests.{leb-true}
 use lib.Dec.{eqb, leb}
 use lib.ListN.{length, take, drop}
 use lib.Ieee.{Float}
-use Rattle.refusal.specs.Table.{first}
+use Rattle.refusal.specs.Table.{Outcome, first, or_else}
 use Rattle.refusal.specs.declared.Refusal.{Refusal}
 use Rattle.refusal.specs.declared.Refusal.TheVariants.{OverLimit, MalformedText}
-use Rattle.refusal.specs.declared.Outcome.TheVariants as outcome
 use Rattle.refusal.proofs.Tables.{done_refused}
 use Rattle.lent.specs.Count.{one}
 use Rattle.lent.proofs.Laws.{either}
@@ -20,37 +19,61 @@ use Rattle.fields.specs.Split.{split, end_of}
 use Rattle.fields.proofs.Every.{both_left, both_right}
 use Rattle.fields.proofs.Pieces.{pieces, pieces_le, piece_upto, cut_front}
 use Rattle.heading.specs.Heading.{is_priced, is_ceiled, head_of}
-use Rattle.heading.specs.declared.Heading.{Heading}
-use Rattle.heading.specs.declared.Heading.TheVariants as heading
 use Rattle.reading.specs.Reading.{lines, line, rest, priced, ceiled, head_in, rows_in, assets, is_block, is_job, start_of, is_over, text_lines, job_of, block_in, job_in, read_as}
 use Rattle.reading.specs.Inner.{limited, has_rows, found_in, BlockAsked, BlockRead, has_ceilings, CeilingsAsked, CeilingsRead, TextRead}
 use Rattle.reading.specs.declared.Block.{Block}
-use Rattle.reading.specs.declared.Found.{Found}
-use Rattle.reading.specs.declared.Found.TheVariants as found
-use Rattle.reading.specs.declared.Reading.{Reading}
-use Rattle.reading.specs.declared.Reading.TheVariants as reading
 use Rattle.reading.proofs.Blocks.{held_narrow, held_whole, head_by, rows_by, priced_has}
 use Rattle.reading.proofs.Limits.{block_parts}
 use Rattle.reading.proofs.Ceilings.{limits_put}
 use Rattle.reading.proofs.Table.{ends, job_refused, table_none, table_over, table_done, job_lineless, job_blockless, asked_refused, asked_job}
+use Rattle.std.specs.Prelude.{Result, Some, Ok, None, Err}
+use Rattle.std.specs.Result.{IsErrAnd}
+use Rattle.heading.specs.Outcomes.{Heading}
+use Rattle.reading.specs.declared.Extent.{Extent}
+use Rattle.reading.specs.Outcomes.{Found, Reading, extent}
+use Rattle.reading.specs.declared.Job.TheVariants as jobs
 
 -- ---- a job, and the limits
 
-pub limited_refused : (over : Bool) (j : Reading) (r : Refusal) → j ≡ reading.Refused r → limited over j ≡ reading.Refused r
+pub limited_refused : (over : Bool) (j : Reading) (r : Refusal) → j ≡ Err r → limited over j ≡ Err r
 limited_refused over j r e = rw e
 
-pub limited_known : (over t : Bool) (j : Reading) → over ≡ t → ((r : Refusal) → j ≡ reading.Refused r → ⊥) → limited over j ≡ cond t (reading.Refused OverLimit) j
-limited_known over t (reading.Refused r) o h = absurd (h r refl)
-limited_known over t (reading.Hrp b d) o h = rw o
-limited_known over t (reading.Hcaa b l d) o h = rw o
+pub limited_known : (over t : Bool) (j : Reading) → over ≡ t → ((r : Refusal) → j ≡ Err r → ⊥) → limited over j ≡ cond t (Err OverLimit) j
+limited_known over t (Err r) o h = absurd (h r refl)
+limited_known over t (Ok (jobs.Hrp b d)) o h = rw o
+limited_known over t (Ok (jobs.Hcaa b l d)) o h = rw o
 
 -- or it is refused already
-refused_or : (j : Reading) → ((r : Refusal) × (j ≡ reading.Refused r)) ⊎ ((r : Refusal) → j ≡ reading.Refused r → ⊥)
-refused_or (reading.Refused r) = inl (r, refl)
-refused_or (reading.Hrp b d) = inr (λ r e. let z : ◌≡◌ {A = ℕ} 0 1 = cc in omega arith)
-refused_or (reading.Hcaa b l d) = inr (λ r e. let z : ◌≡◌ {A = ℕ} 0 1 = cc in omega arith)
+refused_or : (j : Reading) → ((r : Refusal) × (j ≡ Err r)) ⊎ ((r : Refusal) → j ≡ Err r → ⊥)
+refused_or (Err r) = inl (r, refl)
+refused_or (Ok (jobs.Hrp b d)) = inr (λ r e. let z : ◌≡◌ {A = ℕ} 0 1 = cc in omega arith)
+refused_or (Ok (jobs.Hcaa b l d)) = inr (λ r e. let z : ◌≡◌ {A = ℕ} 0 1 = cc in omega arith)
 
--- the first line, as the code cuts it out, and where the next begins
+-- ---- what the exit of a `?` returns; a test that refuses, and one that passes
+
+pub err_is : {A : Type 0} (r : Result A Refusal) (k : Refusal) → IsErrAnd r (λ y. y ≡ k) → r ≡ Err k
+err_is (Ok x) k h = absurd h
+err_is (Err y) k h = ap Err h
+
+pub refused_by : (t : Bool) (r k : Refusal) (o : Outcome) → o ≡ or_else t r (Ok tt) → o ≡ Err k → (t ≡ true) × (k ≡ r)
+unfolding or_else
+refused_by true r k o e f = (refl, cc)
+refused_by false r k o e f = absurd (let z : ◌≡◌ {A = ℕ} 0 1 = cc in omega arith)
+
+pub passed_by : (t : Bool) (r : Refusal) (o : Outcome) → o ≡ or_else t r (Ok tt) → o ≡ Ok tt → t ≡ false
+unfolding or_else
+passed_by true r o e f = absurd (let z : ◌≡◌ {A = ℕ} 0 1 = cc in omega arith)
+passed_by false r o e f = refl
+
+pub not_true : (t : Bool) → not t ≡ true → t ≡ false
+not_true true e = sym e
+not_true false e = refl
+
+pub not_false : (t : Bool) → not t ≡ false → t ≡ true
+not_false true e = refl
+not_false false e = sym e
+
+-- ---- the first line, as the code cuts it out, and where the next begins
 pub line_cut : (text : List ℕ) (e : ℕ) → e ≡ end_of 10 text 0 → take e text ≡ line text 0
 line_cut text e ends = ap (λ (k : ℕ). take k text) ends ∙ cut_front 10 text ∙ sym (piece_upto 10 text)
 
@@ -89,20 +112,22 @@ block_asked text e count p c more room places short ends_at counted some kind li
 rows_le : (text : List ℕ) → rows_in text ≤ length text
 rows_le text = omega (arith, rows_by text (head_in text) refl, ends text, pieces_le 10 text)
 
-no_block : (text : List ℕ) → found.Malformed ≡ found_in text → has_rows text ≡ false
+no_block : (text : List ℕ) → None ≡ found_in text → has_rows text ≡ false
 unfolding found_in
 no_block text e = go (has_rows text) e
   where
-    go : (t : Bool) → found.Malformed ≡ cond t (found.Of (assets text) (rows_in text)) found.Malformed → t ≡ false
+    go : (t : Bool) → None ≡ cond t (Some (extent (assets text) (rows_in text))) None → t ≡ false
     go true q = absurd (let z : ◌≡◌ {A = ℕ} 0 1 = cc in omega arith)
     go false q = refl
 
-some_block : (text : List ℕ) (n rows : ℕ) → found.Of n rows ≡ found_in text → (has_rows text ≡ true) × ((n ≡ assets text) × (rows ≡ rows_in text))
+some_block : (text : List ℕ) (n rows : ℕ) → Some (extent n rows) ≡ found_in text → (has_rows text ≡ true) × ((n ≡ assets text) × (rows ≡ rows_in text))
 unfolding found_in
 some_block text n rows e = go (has_rows text) e
   where
-    go : (t : Bool) → found.Of n rows ≡ cond t (found.Of (assets text) (rows_in text)) found.Malformed → (t ≡ true) × ((n ≡ assets text) × (rows ≡ rows_in text))
-    go true q = (refl, (cc, cc))
+    go : (t : Bool) → Some (extent n rows) ≡ cond t (Some (extent (assets text) (rows_in text))) None → (t ≡ true) × ((n ≡ assets text) × (rows ≡ rows_in text))
+    go true q =
+        let z : ◌≡◌ {A = Extent} (extent n rows) (extent (assets text) (rows_in text)) = cc in
+        (refl, (ap (λ (x : Extent). x.assets) z, ap (λ (x : Extent). x.rows) z))
     go false q = absurd (let z : ◌≡◌ {A = ℕ} 0 1 = cc in omega arith)
 
 -- the lines before those with cells are there
@@ -122,7 +147,7 @@ made n rows p c = record { assets = n; rows = rows; priced = p; ceiled = c }
 -- ---- a block of rows of n assets
 
 module _ {text : List ℕ} {b : Found} {cells : List Float} {starts : List ℕ} {cells' : List Float} {starts' : List ℕ} (was : BlockRead text b cells starts cells' starts')
-    (n rows : ℕ) (is : b ≡ found.Of n rows) where
+    (n rows : ℕ) (is : b ≡ Some (extent n rows)) where
   good : (has_rows text ≡ true) × ((n ≡ assets text) × (rows ≡ rows_in text))
   good = some_block text n rows (sym is ∙ was.told)
 
@@ -145,25 +170,28 @@ module _ {text : List ℕ} {b : Found} {cells : List Float} {starts : List ℕ} 
 -- ---- a text refused, by its table
 
 module _ (text : List ℕ) (cells : List Float) (starts ceilings : List ℕ) (cells' : List Float) (starts' ceilings' : List ℕ) where
-  refused_so : (r : Refusal) → first (text_lines text) ≡ outcome.Refused r → TextRead text (reading.Refused r) cells starts ceilings cells' starts' ceilings'
+  pub text_as : (r s : Reading) → r ≡ s → TextRead text s cells starts ceilings cells' starts' ceilings' → TextRead text r cells starts ceilings cells' starts' ceilings'
+  text_as r s e u = record { told = e ∙ u.told; held = u.held }
+
+  refused_so : (r : Refusal) → first (text_lines text) ≡ Err r → TextRead text (Err r) cells starts ceilings cells' starts' ceilings'
   refused_so r f = record { told = ap (λ o. read_as o (job_in text)) (sym f); held = λ d. absurd (done_refused r (sym d ∙ f)) }
 
-  pub text_lineless : (count : ℕ) → count ≡ length (split 10 text) - 1 → count ≤ 0 → TextRead text (reading.Refused MalformedText) cells starts ceilings cells' starts' ceilings'
+  pub text_lineless : (count : ℕ) → count ≡ length (split 10 text) - 1 → count ≤ 0 → TextRead text (Err MalformedText) cells starts ceilings cells' starts' ceilings'
   text_lineless count e h = refused_so MalformedText (table_none text (job_lineless text (omega arith)))
 
-  unblocked : (has_rows text && (not (ceiled text) || has_ceilings text)) ≡ false → TextRead text (reading.Refused MalformedText) cells starts ceilings cells' starts' ceilings'
+  unblocked : (has_rows text && (not (ceiled text) || has_ceilings text)) ≡ false → TextRead text (Err MalformedText) cells starts ceilings cells' starts' ceilings'
   unblocked e = refused_so MalformedText (table_none text (job_blockless text (block_parts text ∙ e)))
 
   -- ---- by the block that was read
 
   module _ (b : Found) (was : BlockRead text b cells starts cells' starts') where
-    pub text_blockless : b ≡ found.Malformed → TextRead text (reading.Refused MalformedText) cells starts ceilings cells' starts' ceilings'
+    pub text_blockless : b ≡ None → TextRead text (Err MalformedText) cells starts ceilings cells' starts' ceilings'
     text_blockless e = unblocked (ap (λ (t : Bool). t && (not (ceiled text) || has_ceilings text)) (no_block text (sym e ∙ was.told)))
 
     -- rows of n assets, and their ceilings
-    module _ (n rows : ℕ) (is : b ≡ found.Of n rows) (w : ℕ) (held : w ≡ cond (is_over rows n) 0 n)
+    module _ (n rows : ℕ) (is : b ≡ Some (extent n rows)) (w : ℕ) (held : w ≡ cond (is_over rows n) 0 n)
         (t : Bool) (part' : List ℕ) (roomy : w ≤ length ceilings) (read : CeilingsRead text t (take w ceilings) part') where
-      pub text_unlimited : t ≡ false → TextRead text (reading.Refused MalformedText) cells starts ceilings cells' starts' ceilings'
+      pub text_unlimited : t ≡ false → TextRead text (Err MalformedText) cells starts ceilings cells' starts' ceilings'
       text_unlimited e = unblocked (ap (λ (u : Bool). has_rows text && u) (sym read.told ∙ e) ∙ and-false (has_rows text))
 
       -- and what the first line asks for
@@ -190,32 +218,32 @@ module _ (text : List ℕ) (cells : List Float) (starts ceilings : List ℕ) (ce
         over_is : is_over rows n ≡ is_over (rows_in text) (assets text)
         over_is = ap (λ (k : ℕ). is_over rows k) sound.1.0 ∙ ap (λ (k : ℕ). is_over k (assets text)) sound.1.1
 
-        told_refused : (r : Refusal) → job ≡ reading.Refused r → first (text_lines text) ≡ outcome.Refused r
+        told_refused : (r : Refusal) → job ≡ Err r → first (text_lines text) ≡ Err r
         unfolding job
         told_refused r e = asked_refused text some block r (sym head ∙ job_refused (made n rows p c) asked_for r e)
 
-        module _ (known : (r : Refusal) → job ≡ reading.Refused r → ⊥) where
-          head_known : (r : Refusal) → head_of (line text 0) ≡ heading.Refused r → ⊥
+        module _ (known : (r : Refusal) → job ≡ Err r → ⊥) where
+          head_known : (r : Refusal) → head_of (line text 0) ≡ Err r → ⊥
           unfolding job
           head_known r e = known r (ap (job_of (made n rows p c)) (head ∙ e))
 
           is_job_lem : is_job text ≡ true
           is_job_lem = asked_job text some block head_known
 
-          told_over : is_over rows n ≡ true → first (text_lines text) ≡ outcome.Refused OverLimit
+          told_over : is_over rows n ≡ true → first (text_lines text) ≡ Err OverLimit
           told_over o = table_over text is_job_lem head_known (sym over_is ∙ o)
 
-          told_done : is_over rows n ≡ false → first (text_lines text) ≡ outcome.Done
+          told_done : is_over rows n ≡ false → first (text_lines text) ≡ Ok tt
           told_done o = table_done text is_job_lem head_known (sym over_is ∙ o)
 
         pub text_judged : (said : Reading) → said ≡ limited (is_over rows n) (job_of (made n rows p c) asked_for) → TextRead text said cells starts ceilings cells' starts' ceilings'
         unfolding job
         text_judged said is_said =
             ⊎_elim
-            (λ h. answered (reading.Refused h.0) (is_said ∙ limited_refused (is_over rows n) job h.0 h.1) (refused_so h.0 (told_refused h.0 h.1)))
+            (λ h. text_as said (Err h.0) (is_said ∙ limited_refused (is_over rows n) job h.0 h.1) (refused_so h.0 (told_refused h.0 h.1)))
             (λ known.
             ⊎_elim
-            (λ o. answered (reading.Refused OverLimit) (is_said ∙ limited_known (is_over rows n) true job o known) (refused_so OverLimit (told_over known o)))
+            (λ o. text_as said (Err OverLimit) (is_said ∙ limited_known (is_over rows n) true job o known) (refused_so OverLimit (told_over known o)))
             (λ o.
             let f = told_done known o in
             record {
@@ -224,6 +252,3 @@ module _ (text : List ℕ) (cells : List Float) (starts ceilings : List ℕ) (ce
             })
             (either (is_over rows n)))
             (refused_or job)
-          where
-            answered : (r : Reading) → said ≡ r → TextRead text r cells starts ceilings cells' starts' ceilings' → TextRead text said cells starts ceilings cells' starts' ceilings'
-            answered r e u = record { told = e ∙ u.told; held = u.held }

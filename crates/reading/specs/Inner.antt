@@ -1,8 +1,7 @@
 -- What the private functions ask of one another and promise: may be skipped. Definitions only.
-use Rattle.std.specs.Prelude.{ℕ, ◌+◌, ◌*◌, ◌<◌, ◌≤◌, ◌≡◌, Bool, true, false, cond, not, ◌&&◌, ◌||◌, List, [], ◌∷◌, leb, ltb, eqb, length, take, drop, get_or, Float}
+use Rattle.std.specs.Prelude.{ℕ, ◌+◌, ◌*◌, ◌<◌, ◌≤◌, ◌≡◌, Bool, true, false, cond, not, ◌&&◌, ◌||◌, List, [], ◌∷◌, leb, ltb, eqb, length, take, drop, get_or, Float, Some, Ok, None, Err}
 use Rattle.refusal.specs.Table.{Line, first}
 use Rattle.refusal.specs.declared.Refusal.TheVariants.{OverLimit, ShortBuffer}
-use Rattle.refusal.specs.declared.Outcome.TheVariants.{Done}
 use Rattle.lent.specs.Count.{one}
 use Rattle.lent.specs.Grid.{tab, grid, over}
 use Rattle.lent.specs.Lent.{most_assets, most_cells}
@@ -12,10 +11,8 @@ use Rattle.names.specs.Names.{is_name}
 use Rattle.ceilings.specs.Written.{is_ceiling, ceiling_of}
 use Rattle.heading.specs.Heading.{field, last_field}
 use Rattle.reading.specs.Reading.{lines, line, rest, priced, ceiled, head_in, rows_in, assets, is_row, is_day, is_names, is_ceilings, cells_in, start_of, starts_in, text_ceiling, ceilings_in, is_over, text_lines, most_bytes, ReadRoom, job_in, read_as}
-use Rattle.reading.specs.declared.Found.{Found}
-use Rattle.reading.specs.declared.Found.TheVariants as found
-use Rattle.reading.specs.declared.Reading.{Reading}
-use Rattle.reading.specs.declared.Reading.TheVariants as reading
+use Rattle.reading.specs.Outcomes.{Found, Reading, extent}
+use Rattle.reading.specs.declared.Job.TheVariants as jobs
 
 -- the first lines of the table: those that the sizes decide
 unfoldable pub text_size_lines : ℕ → ReadRoom → List Line
@@ -28,9 +25,9 @@ text_size_lines bytes room =
 
 -- a job over the limits is refused, where nothing else refuses it
 abbrev pub limited : Bool → Reading → Reading
-limited over (reading.Refused r) = reading.Refused r
-limited over (reading.Hrp b d) = cond over (reading.Refused OverLimit) (reading.Hrp b d)
-limited over (reading.Hcaa b l d) = cond over (reading.Refused OverLimit) (reading.Hcaa b l d)
+limited over (Err r) = Err r
+limited over (Ok (jobs.Hrp b d)) = cond over (Err OverLimit) (Ok (jobs.Hrp b d))
+limited over (Ok (jobs.Hcaa b l d)) = cond over (Err OverLimit) (Ok (jobs.Hcaa b l d))
 
 -- field k of a row's as a double
 unfoldable pub cell_at : List (List ℕ) → ℕ → Float
@@ -102,7 +99,7 @@ has_rows text =
 
 unfoldable pub found_in : List ℕ → Found
 unfolding has_rows assets rows_in
-found_in text = cond (has_rows text) (found.Of (assets text) (rows_in text)) found.Malformed
+found_in text = cond (has_rows text) (Some (extent (assets text) (rows_in text))) None
 
 -- a text of which so many lines end, the second of which begins at `from`; `more` is 1 where it has ceilings
 pub record BlockAsked (text : List ℕ) (from ends : ℕ) (daily : Bool) (more cells starts : ℕ) : Type 0 where
@@ -161,4 +158,4 @@ pub record CeilingsRead (text : List ℕ) (r : Bool) (ceilings ceilings' : List 
 
 pub record TextRead (text : List ℕ) (r : Reading) (cells : List Float) (starts ceilings : List ℕ) (cells' : List Float) (starts' ceilings' : List ℕ) : Type 0 where
   pub told : r ≡ read_as (first (text_lines text)) (job_in text)
-  pub held : first (text_lines text) ≡ Done → Filled text cells starts cells' starts' × (ceilings' ≡ over (ceilings_in text) ceilings)
+  pub held : first (text_lines text) ≡ Ok tt → Filled text cells starts cells' starts' × (ceilings' ≡ over (ceilings_in text) ceilings)

@@ -1,2 +1,3 @@
+pub mod Outcomes
 pub mod Reading
 pub mod Inner

@@ -1,11 +1,9 @@
 -- Document 01, "Millionths and the job program": what a job text says. Document 02, request 8: decimals, and a prices block in place of the covariance; request 10: ceilings. Definitions only.
-use Rattle.std.specs.Prelude.{ℕ, zero, suc, ◌+◌, ◌-◌, ◌*◌, ◌≡◌, Bool, not, cond, ◌&&◌, ◌||◌, List, [], ◌∷◌, ◌++◌, leb, ltb, eqb, length, take, drop, Float}
+use Rattle.std.specs.Prelude.{ℕ, zero, suc, ◌+◌, ◌-◌, ◌*◌, ◌≡◌, Bool, not, cond, ◌&&◌, ◌||◌, List, [], ◌∷◌, ◌++◌, leb, ltb, eqb, length, take, drop, Float, Ok, Err}
 use Rattle.arithmetic.specs.Constants.{pz}
-use Rattle.refusal.specs.Table.{Line, first}
+use Rattle.refusal.specs.Table.{Line, first, Outcome}
 use Rattle.refusal.specs.Telling.{Telling, accepts, refuses}
 use Rattle.refusal.specs.declared.Refusal.TheVariants.{OverLimit, ShortBuffer, MalformedText}
-use Rattle.refusal.specs.declared.Outcome.{Outcome}
-use Rattle.refusal.specs.declared.Outcome.TheVariants as outcome
 use Rattle.lent.specs.Count.{one}
 use Rattle.lent.specs.Grid.{grid, tab}
 use Rattle.lent.specs.Lent.{most_assets, most_cells, laid}
@@ -14,11 +12,11 @@ use Rattle.decimals.specs.Decimal.{is_cell, cell_of}
 use Rattle.names.specs.Names.{is_name}
 use Rattle.ceilings.specs.Written.{is_ceiling, ceiling_of}
 use Rattle.heading.specs.Heading.{field, fields_in, last_field, is_hrp, is_hcaa, is_priced, is_ceiled, unknown_lines, head_of}
-use Rattle.heading.specs.declared.Heading.{Heading}
-use Rattle.heading.specs.declared.Heading.TheVariants as heading
 use Rattle.reading.specs.declared.Block.{Block}
-use Rattle.reading.specs.declared.Reading.{Reading}
-use Rattle.reading.specs.declared.Reading.TheVariants as reading
+use Rattle.heading.specs.Outcomes.{Heading}
+use Rattle.reading.specs.Outcomes.{Reading}
+use Rattle.heading.specs.declared.Task.TheVariants as task
+use Rattle.reading.specs.declared.Job.TheVariants as jobs
 
 -- ---- lines
 
@@ -192,9 +190,9 @@ read_outcome text room = first (read_table text room)
 
 -- what a first line asks for, of a block
 abbrev pub job_of : Block → Heading → Reading
-job_of b (heading.Refused r) = reading.Refused r
-job_of b (heading.Hrp d) = reading.Hrp b d
-job_of b (heading.Hcaa l d) = reading.Hcaa b l d
+job_of b (Err r) = Err r
+job_of b (Ok (task.Hrp d)) = Ok (jobs.Hrp b d)
+job_of b (Ok (task.Hcaa l d)) = Ok (jobs.Hcaa b l d)
 
 -- rows of n cells that are prices or not, with ceilings or without
 unfoldable pub block_in : List ℕ → Block
@@ -206,8 +204,8 @@ unfolding split head_of block_in
 job_in text = job_of (block_in text) (head_of (line text 0))
 
 abbrev pub read_as : Outcome → Reading → Reading
-read_as outcome.Done r = r
-read_as (outcome.Refused k) r = reading.Refused k
+read_as (Ok _) r = r
+read_as (Err k) r = Err k
 
 unfoldable pub read_of : List ℕ → ReadRoom → Reading
 unfolding read_outcome job_in
@@ -215,9 +213,9 @@ read_of text room = read_as (read_outcome text room) (job_in text)
 
 -- what the answer tells: 0 and the job, or the refusal's number
 abbrev pub reading_tells : Reading → Telling Reading
-reading_tells (reading.Refused r) = refuses r
-reading_tells (reading.Hrp b d) = accepts (reading.Hrp b d)
-reading_tells (reading.Hcaa b l d) = accepts (reading.Hcaa b l d)
+reading_tells (Err r) = refuses r
+reading_tells (Ok (jobs.Hrp b d)) = accepts (Ok (jobs.Hrp b d))
+reading_tells (Ok (jobs.Hcaa b l d)) = accepts (Ok (jobs.Hcaa b l d))
 
 -- what the lent doubles hold: the cells, then zeros; and the lent numbers: where the assets' names begin, and their ceilings, then zeros
 unfoldable pub cells_laid : List ℕ → ReadRoom → List Float

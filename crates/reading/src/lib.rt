@@ -2,16 +2,15 @@
 #![tactic(auto)]
 
 ghost use Rattle.std.specs.Prelude.{◌≡◌, cond, true, ◌+◌, ◌≤◌, length};
-ghost use Rattle.lent.specs.Count.{one};
 ghost use Rattle.fields.specs.Split.{split};
+ghost use Rattle.lent.specs.Grid.{zeros, noughts};
 ghost use Rattle.refusal.specs.Table.{first};
 ghost use Rattle.reading.specs.Reading.{start_of, is_over, job_of, JobRead};
 ghost use Rattle.reading.specs.Inner.{text_size_lines, limited, RowRead, LineRead, LinesAsked, LinesRead, NamesRead, BlockAsked, DaysAsked, BlockRead, LastRead, CeilingsAsked, CeilingsRead, TextRead};
 
-use fields::{Cell, Numeral};
-use heading::Heading;
+use heading::Task;
 use linkage::{Distance, Linkage};
-use refusal::{Outcome, Refusal};
+use refusal::Refusal;
 
 pub const MOST_BYTES: usize = 65536;
 
@@ -26,8 +25,7 @@ pub struct Block {
 
 // What a job text is; its cells, where its assets' names begin, and their ceilings are in the lent buffers.
 #[derive(Clone, Copy)]
-pub enum Reading {
-    Refused(Refusal),
+pub enum Job {
     Hrp {
         block: Block,
         distance: Distance,
@@ -41,9 +39,9 @@ pub enum Reading {
 
 // The size of a block.
 #[derive(Clone, Copy)]
-enum Found {
-    Malformed,
-    Of { assets: usize, rows: usize },
+struct Extent {
+    assets: usize,
+    rows: usize,
 }
 
 // The cells of a line, n of them, into a row, as far as it reaches. Each is looked at as it is read.
@@ -55,9 +53,9 @@ fn read_row(line: &[u8], n: usize, row: &mut [f64]) -> bool
     let mut at = 0;
     let mut j = 0;
     while at <= line.len() {
-        let e = fields::end_of(line, 9, at);
+        let e = fields::end_of(line, b'\t', at);
         let cell = decimals::read_cell(&line[at..e]);
-        let Cell::Of(v) = cell else {
+        let Some(v) = cell else {
             return false;
         };
         if j < row.len() {
@@ -78,7 +76,7 @@ fn read_line(line: &[u8], named: bool, n: usize, row: &mut [f64]) -> bool
     if !named {
         return read_row(line, n, row);
     }
-    let e = fields::end_of(line, 9, 0);
+    let e = fields::end_of(line, b'\t', 0);
     if !names::is_name(&line[..e]) {
         return false;
     }
@@ -104,19 +102,17 @@ fn read_lines(
     ensures { LinesRead text.now before rows n w result cells.old starts.old cells.new starts.new }
 {
     let mut at = from;
-    let mut i = 0;
-    while i < rows {
+    for i in 0..rows {
         if i < starts.len() {
             starts[i] = at;
         }
-        let e = fields::end_of(text, 10, at);
+        let e = fields::end_of(text, b'\n', at);
         let a = i * w;
         let b = a + w;
         if !read_line(&text[at..e], before == 1, n, &mut cells[a..b]) {
             return false;
         }
         at = e + 1;
-        i += 1;
     }
     at == text.len()
 }
@@ -133,7 +129,7 @@ fn read_names(line: &[u8], from: usize, starts: &mut [usize]) -> bool
         if i < starts.len() {
             starts[i] = from + at;
         }
-        let e = fields::end_of(line, 9, at);
+        let e = fields::end_of(line, b'\t', at);
         if !names::is_name(&line[at..e]) {
             return false;
         }
@@ -144,14 +140,12 @@ fn read_names(line: &[u8], from: usize, starts: &mut [usize]) -> bool
 }
 
 // Whether so many rows of n cells are over the limits of an allocator.
+#[tactic(auto, using(std::proofs::lemmas::Bool::Decides::nat_tests), unfolding(crate::specs::Reading::is_over))]
 fn is_over(rows: usize, n: usize) -> bool
     requires { rows ≤ 65536 }
     ensures { result ≡ is_over rows n }
 {
-    if lent::MOST_ASSETS < n {
-        return true;
-    }
-    lent::MOST_CELLS < rows * n
+    lent::MOST_ASSETS < n || lent::MOST_CELLS < rows * n
 }
 
 // How many cells of a row are held: none of a block over the limits, which is only looked at.
@@ -159,20 +153,7 @@ fn held(rows: usize, n: usize) -> usize
     requires { rows ≤ 65536 }
     ensures { result ≡ cond (is_over rows n) 0 n }
 {
-    if is_over(rows, n) {
-        return 0;
-    }
-    n
-}
-
-// One more where there are ceilings.
-fn more(ceiled: bool) -> usize
-    ensures { result ≡ one ceiled }
-{
-    if ceiled {
-        return 1;
-    }
-    0
+    if is_over(rows, n) { 0 } else { n }
 }
 
 // Where the days begin: here, or after one line of ceilings.
@@ -183,7 +164,7 @@ fn days_from(text: &[u8], at: usize, more: usize) -> usize
     if more == 0 {
         return at;
     }
-    fields::end_of(text, 10, at) + 1
+    fields::end_of(text, b'\n', at) + 1
 }
 
 // Prices: a line of names, and after the ceilings, where there are any, a line for each day. `ends` lines end in the text.
@@ -194,27 +175,25 @@ fn read_prices(
     more: usize,
     cells: &mut [f64],
     starts: &mut [usize],
-) -> Found
+) -> Option<Extent>
     requires { BlockAsked text.now from ends true more (length cells.old) (length starts.old) }
     ensures { BlockRead text.now result cells.old starts.old cells.new starts.new }
 {
     let before = 2 + more;
     if ends < before {
-        return Found::Malformed;
+        return None;
     }
     let rows = ends - before;
-    let e = fields::end_of(text, 10, from);
+    let e = fields::end_of(text, b'\n', from);
     let line = &text[from..e];
-    let n = fields::count(line, 9) + 1;
+    let n = fields::count(line, b'\t') + 1;
     let w = held(rows, n);
     if !read_names(line, from, &mut starts[..w]) {
-        return Found::Malformed;
+        return None;
     }
     let at = days_from(text, e + 1, more);
-    if !read_lines(text, at, before, rows, n, w, cells, &mut starts[..0]) {
-        return Found::Malformed;
-    }
-    Found::Of { assets: n, rows }
+    let good = read_lines(text, at, before, rows, n, w, cells, &mut starts[..0]);
+    good.then_some(Extent { assets: n, rows })
 }
 
 // The names and the cells after the first line: prices, or a covariance, a line for each asset.
@@ -226,7 +205,7 @@ fn read_block(
     more: usize,
     cells: &mut [f64],
     starts: &mut [usize],
-) -> Found
+) -> Option<Extent>
     requires { BlockAsked text.now from ends daily more (length cells.old) (length starts.old) }
     ensures { BlockRead text.now result cells.old starts.old cells.new starts.new }
 {
@@ -236,10 +215,8 @@ fn read_block(
     let n = ends - 1;
     let w = held(n, n);
     // a ceiling has the form of a cell: it is looked at as one more, which is not held
-    if !read_lines(text, from, 1, n, n + more, w, cells, &mut starts[..w]) {
-        return Found::Malformed;
-    }
-    Found::Of { assets: n, rows: n }
+    let good = read_lines(text, from, 1, n, n + more, w, cells, &mut starts[..w]);
+    good.then_some(Extent { assets: n, rows: n })
 }
 
 // The ceilings that end n pieces.
@@ -250,18 +227,16 @@ fn read_last(s: &[u8], d: u8, n: usize, ceilings: &mut [usize]) -> bool
     ensures { LastRead d s.now n result ceilings.new }
 {
     let mut at = 0;
-    let mut i = 0;
-    while i < n {
+    for i in 0..n {
         let e = fields::end_of(s, d, at);
-        let read = ceilings::read_ceiling(fields::last_piece(&s[at..e], 9));
-        let Numeral::Of(c) = read else {
+        let read = ceilings::read_ceiling(fields::last_piece(&s[at..e], b'\t'));
+        let Some(c) = read else {
             return false;
         };
         if i < ceilings.len() {
             ceilings[i] = c;
         }
         at = e + 1;
-        i += 1;
     }
     true
 }
@@ -282,45 +257,40 @@ fn read_ceilings(
         return true;
     }
     if !daily {
-        return read_last(&text[from..], 10, n, ceilings);
+        return read_last(&text[from..], b'\n', n, ceilings);
     }
-    let at = fields::end_of(text, 10, from) + 1;
-    let e = fields::end_of(text, 10, at);
+    let at = fields::end_of(text, b'\n', from) + 1;
+    let e = fields::end_of(text, b'\n', at);
     let line = &text[at..e];
-    if fields::count(line, 9) + 1 != n {
+    if fields::count(line, b'\t') + 1 != n {
         return false;
     }
-    read_last(line, 9, n, ceilings)
+    read_last(line, b'\t', n, ceilings)
 }
 
 // The job that a first line asks for, of a block.
-fn job_of(asked: Heading, block: Block) -> Reading
+fn job_of(asked: Result<Task, Refusal>, block: Block) -> Result<Job, Refusal>
     ensures { result ≡ job_of block asked }
 {
-    match asked {
-        Heading::Refused(r) => Reading::Refused(r),
-        Heading::Hrp { distance } => Reading::Hrp { block, distance },
-        Heading::Hcaa { linkage, distance } => Reading::Hcaa {
+    match asked? {
+        Task::Hrp { distance } => Ok(Job::Hrp { block, distance }),
+        Task::Hcaa { linkage, distance } => Ok(Job::Hcaa {
             block,
             linkage,
             distance,
-        },
+        }),
     }
 }
 
 // The same, or what refuses it: 8 and 7, then 9 for a block over the limits.
-fn judged(asked: Heading, block: Block) -> Reading
+#[tactic(auto, unfolding(refusal::specs::Table::or_else))]
+fn judged(asked: Result<Task, Refusal>, block: Block) -> Result<Job, Refusal>
     requires { block.rows ≤ 65536 }
     ensures { result ≡ limited (is_over block.rows block.assets) (job_of block asked) }
 {
-    let job = job_of(asked, block);
-    if let Reading::Refused(_) = job {
-        return job;
-    }
-    if is_over(block.rows, block.assets) {
-        return Reading::Refused(Refusal::OverLimit);
-    }
-    job
+    let job = job_of(asked, block)?;
+    refusal::refuse(is_over(block.rows, block.assets), Refusal::OverLimit)?;
+    Ok(job)
 }
 
 // A text within its limit, its newlines counted once.
@@ -329,31 +299,26 @@ fn read_text(
     cells: &mut [f64],
     starts: &mut [usize],
     ceilings: &mut [usize],
-) -> Reading
+) -> Result<Job, Refusal>
     requires text_len_bound { length text.now ≤ 65536 }
     requires in_bounds { 4096 ≤ length cells.old }
     requires in_bounds_2 { 64 ≤ length starts.old }
     requires in_bounds_3 { 64 ≤ length ceilings.old }
     ensures { TextRead text.now result cells.old starts.old ceilings.old cells.new starts.new ceilings.new }
 {
-    let ends = fields::count(text, 10);
-    if ends < 1 {
-        return Reading::Refused(Refusal::MalformedText);
-    }
-    let e = fields::end_of(text, 10, 0);
+    let ends = fields::count(text, b'\n');
+    refusal::refuse(ends < 1, Refusal::MalformedText)?;
+    let e = fields::end_of(text, b'\n', 0);
     let line = &text[..e];
     let asked = heading::head(line);
     let priced = heading::is_priced(line);
     let ceiled = heading::is_ceiled(line);
     let from = e + 1;
-    let found = read_block(text, from, ends, priced, more(ceiled), cells, starts);
-    let Found::Of { assets, rows } = found else {
-        return Reading::Refused(Refusal::MalformedText);
-    };
+    let found = read_block(text, from, ends, priced, usize::from(ceiled), cells, starts);
+    let Extent { assets, rows } = found.ok_or(Refusal::MalformedText)?;
     let w = held(rows, assets);
-    if !read_ceilings(text, from, priced, ceiled, assets, &mut ceilings[..w]) {
-        return Reading::Refused(Refusal::MalformedText);
-    }
+    let good = read_ceilings(text, from, priced, ceiled, assets, &mut ceilings[..w]);
+    refusal::refuse(!good, Refusal::MalformedText)?;
     judged(
         asked,
         Block {
@@ -366,17 +331,25 @@ fn read_text(
 }
 
 // What the sizes refuse: 9, then 11 for any of the buffers.
-fn judge(bytes: usize, cells: usize, starts: usize, ceilings: usize) -> Outcome
+#[tactic(auto, unfolding(crate::specs::Inner::text_size_lines, refusal::specs::Table::first, refusal::specs::Table::or_else))]
+fn judge(bytes: usize, cells: usize, starts: usize, ceilings: usize) -> Result<(), Refusal>
     ensures { result ≡ first (text_size_lines bytes (record { cells = cells; starts = starts; ceilings = ceilings })) }
 {
-    let o = refusal::refuse(
-        ceilings < lent::MOST_ASSETS,
-        Refusal::ShortBuffer,
-        Outcome::Done,
-    );
-    let o = refusal::refuse(starts < lent::MOST_ASSETS, Refusal::ShortBuffer, o);
-    let o = refusal::refuse(cells < lent::MOST_CELLS, Refusal::ShortBuffer, o);
-    refusal::refuse(MOST_BYTES < bytes, Refusal::OverLimit, o)
+    refusal::refuse(MOST_BYTES < bytes, Refusal::OverLimit)?;
+    refusal::refuse(cells < lent::MOST_CELLS, Refusal::ShortBuffer)?;
+    refusal::refuse(starts < lent::MOST_ASSETS, Refusal::ShortBuffer)?;
+    refusal::refuse(ceilings < lent::MOST_ASSETS, Refusal::ShortBuffer)
+}
+
+// Zeros in the three buffers.
+fn blank(cells: &mut [f64], starts: &mut [usize], ceilings: &mut [usize])
+    ensures cells_after { cells.new ≡ zeros (length cells.old) }
+    ensures starts_after { starts.new ≡ noughts (length starts.old) }
+    ensures ceilings_after { ceilings.new ≡ noughts (length ceilings.old) }
+{
+    lent::clear(cells);
+    lent::clear(starts);
+    lent::clear(ceilings);
 }
 
 // Reads a job text: what it is, its cells, where its assets' names begin, and their ceilings. A text refused half-way leaves zeros.
@@ -385,23 +358,16 @@ pub fn read_job(
     cells: &mut [f64],
     starts: &mut [usize],
     ceilings: &mut [usize],
-) -> Reading
+) -> Result<Job, Refusal>
     ensures { JobRead text.now (record { cells = length cells.old; starts = length starts.old; ceilings = length ceilings.old })
         result cells.new starts.new ceilings.new }
 {
     let said = judge(text.len(), cells.len(), starts.len(), ceilings.len());
-    lent::clear_from(cells, 0);
-    lent::clear_numbers_from(starts, 0);
-    lent::clear_numbers_from(ceilings, 0);
-    if let Outcome::Refused(r) = said {
-        return Reading::Refused(r);
-    }
+    blank(cells, starts, ceilings);
+    said?;
     let read = read_text(text, cells, starts, ceilings);
-    let Reading::Refused(_) = read else {
-        return read;
-    };
-    lent::clear(cells);
-    lent::clear_numbers(starts);
-    lent::clear_numbers(ceilings);
+    if read.is_err() {
+        blank(cells, starts, ceilings);
+    }
     read
 }

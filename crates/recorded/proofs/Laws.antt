@@ -1,20 +1,19 @@
--- Laws in the shape of the needs: tokens read from the first byte on, writing that goes on, and what is not zero. Assumes nothing.
-use Prim.Native.Nat.{ℕ, zero, suc, ◌+◌, ◌*◌, ◌-◌, ◌%◌, ◌<◌, ◌≤◌, min}
+-- Laws in the shape of the needs: tokens read from the first byte on, and writing that goes on. Assumes nothing.
+use Prim.Native.Nat.{ℕ, ◌+◌, ◌*◌, ◌-◌, ◌%◌, ◌<◌, ◌≤◌, min}
 use mathlib.Core.Path.{◌≡◌, refl, sym, ap, ◌∙◌}
-use mathlib.Core.List.{List, [], ◌∷◌}
-use native.Mathlib.Nat.{sub-zero, min-le_right, min-zero, zero-min, suc-min-suc}
+use mathlib.Core.List.{List}
+use native.Mathlib.Nat.{sub-zero}
 use native.Mathlib.Numerals.{add-one}
 use native.Mathlib.Omega.{arith}
 use borrow.Author.Tests.{lt-ltb, le-ltb}
-use lib.ListN.{length, get_or, take, drop, set, length-set, drop_of_length-le, length-drop}
-use lib.Seq.{drop-cons, length-take-le, get_or-set_other}
-use lib.Ieee.{Float, nan, binary64, to_bits}
-use Rattle.lent.specs.declared.Shape.{Shape}
+use lib.ListN.{length, get_or, drop, set, drop_of_length-le}
+use lib.Seq.{drop-cons}
 use Rattle.lent.specs.Grid.{tab, over}
-use Rattle.lent.specs.Lent.{is_set, shape_of}
+use Rattle.lent.specs.Lent.{is_set, shape_of, Shape}
 use Rattle.lent.proofs.Fill.{tab_step}
 use Rattle.recorded.specs.Tokens.{worth_of, token_start, token_end, token_value, next_value, next_place, place_after, token_at, part_place, matrix_place, matrices_place}
-use Rattle.recorded.specs.Told.{Onward, table_size, unclean_in, unclean_numbers_in}
+use Rattle.recorded.specs.declared.Told.{Told}
+use Rattle.recorded.specs.Told.{Onward, Continues}
 
 -- ---- tokens
 
@@ -82,9 +81,6 @@ pub place_step : (text : List ℕ) (at i here a : ℕ) → here ≡ place_after 
 unfolding place_after
 place_step text at i here a e f = rw add-one (f ∙ ap (next_place text) e)
 
-pub place_end : (text : List ℕ) (at i n here : ℕ) → here ≡ place_after text at i → i ≡ n → here ≡ place_after text at n
-place_end text at i n here e f = e ∙ ap (place_after text at) f
-
 pub token_step : (text : List ℕ) (at i here v : ℕ) → here ≡ place_after text at i → v ≡ next_value text here → v ≡ token_at text at i
 unfolding token_at
 token_step text at i here v e f = f ∙ ap (next_value text) e
@@ -119,12 +115,9 @@ unfolding matrices_place
 matrices_place_lem text at p q r room l m h k e f g =
     g ∙ ap (λ (n : ℕ). matrix_place text q (n - 8704)) k ∙ ap (λ (n : ℕ). matrix_place text n (room - 8704)) (f ∙ ap (λ (n : ℕ). matrix_place text p (n - 4352)) h ∙ ap (λ (n : ℕ). matrix_place text n (room - 4352)) (e ∙ ap (matrix_place text at) (sub-zero room)))
 
--- of expected returns: the flag, and the place after the doubles that follow it
+-- of expected returns, the flag
 pub flag_read : (text : List ℕ) (at v : ℕ) → v ≡ next_value text at → is_set v ≡ is_set (token_at text at 0)
 flag_read text at v e = ap is_set (token_first text at v e)
-
-pub next_part : (text : List ℕ) (at a r room : ℕ) → a ≡ next_place text at → r ≡ part_place text a room → r ≡ part_place text (next_place text at) room
-next_part text at a r room e f = f ∙ ap (λ (k : ℕ). part_place text k room) e
 
 pub shape_read : (o : Shape) (g h r s w v : ℕ) → o ≡ shape_of (is_set g) r w → g ≡ h → r ≡ s → w ≡ v → o ≡ shape_of (is_set h) s v
 shape_read o g h r s w v e f p q = e ∙ ap (λ (k : ℕ). shape_of (is_set k) r w) f ∙ ap (λ (k : ℕ). shape_of (is_set h) k w) p ∙ ap (λ (k : ℕ). shape_of (is_set h) s k) q
@@ -135,51 +128,7 @@ module _ {A : Type 0} (g : ℕ → A) (text : List ℕ) (at : ℕ) where
       → set d k x ≡ over (tab (k + 1) (λ j. g (token_at text at j))) l
   fill_step d l k here v x e p n f h = tab_step (λ j. g (token_at text at j)) d (set d k x) l x k refl e (f ∙ ap g (token_step text at k here v p n)) h
 
-  pub fill_end : (d l : List A) (k n : ℕ) → d ≡ over (tab k (λ j. g (token_at text at j))) l → k ≡ n → d ≡ over (tab n (λ j. g (token_at text at j))) l
-  fill_end d l k n e f = e ∙ ap (λ (m : ℕ). over (tab m (λ j. g (token_at text at j))) l) f
-
--- ---- parts
-
-take_min : {A : Type 0} (n : ℕ) (l : List A) → take (min n (length l)) l ≡ take n l
-take_min zero l = rw (zero-min (length l))
-take_min (suc n) [] = rw (min-zero (suc n))
-take_min (suc n) (x ∷ xs) = rw (suc-min-suc n (length xs)) (ap (λ r. x ∷ r) (take_min n xs))
-
-drop_min : {A : Type 0} (n : ℕ) (l : List A) → drop (min n (length l)) l ≡ drop n l
-drop_min zero l = rw (zero-min (length l))
-drop_min (suc n) [] = rw (min-zero (suc n))
-drop_min (suc n) (x ∷ xs) = rw (suc-min-suc n (length xs)) (drop_min n xs)
-
-pub take_least : {A : Type 0} (l : List A) (n k : ℕ) → k ≡ min n (length l) → take k l ≡ take n l
-take_least l n k e = ap (λ (m : ℕ). take m l) e ∙ take_min n l
-
-pub take_length : {A : Type 0} (l : List A) (n k : ℕ) → k ≡ min n (length l) → k ≡ length (take k l)
-take_length l n k e = sym (length-take-le k l (rw e (min-le_right n (length l))))
-
-pub drop_least : {A : Type 0} (l : List A) (n k : ℕ) → k ≡ min n (length l) → drop k l ≡ drop n l
-drop_least l n k e = ap (λ (m : ℕ). drop m l) e ∙ drop_min n l
-
--- `m` entries from place k on, as many as there are
-pub part_least : {A : Type 0} (l : List A) (start len k m : ℕ) → k ≡ min start (length l) → m ≡ min len (length l - k) → take ((k + m) - k) (drop k l) ≡ take len (drop start l)
-part_least l start len k m e f =
-    let q : (k + m) - k ≡ m = omega arith in
-    ap (λ (j : ℕ). take j (drop k l)) (q ∙ f ∙ ap (min len) (sym (length-drop k l))) ∙ take_min len (drop k l) ∙ ap (take len) (drop_least l start k e)
-
-pub take_all : {A : Type 0} (l : List A) (n : ℕ) → length l ≤ n → take n l ≡ l
-take_all [] zero h = refl
-take_all [] (suc n) h = refl
-take_all (x ∷ xs) zero h = absurd (omega arith)
-take_all (x ∷ xs) (suc n) h = ap (λ r. x ∷ r) (take_all xs n (omega arith))
-
-pub rest_all : {A : Type 0} (l r : List A) (k : ℕ) → r ≡ take (length l) (drop k l) → r ≡ drop k l
-rest_all l r k e = e ∙ take_all (drop k l) (length l) (omega (arith, length-drop k l))
-
-pub past_least : {A : Type 0} (l : List A) (n k : ℕ) → k ≡ min n (length l) → take (length l - k) (drop k l) ≡ drop n l
-past_least l n k e = take_all (drop k l) (length l - k) (omega (arith, length-drop k l)) ∙ drop_least l n k e
-
-pub past_length : {A : Type 0} (l : List A) (n k : ℕ) → k ≡ min n (length l) → length (take (length l - k) (drop k l)) ≡ length l - n
-past_length l n k e = ap length (past_least l n k e) ∙ length-drop n l
-
+-- the place after a count and as many numbers, or as many as there is room for
 pub part_place_lem : (text : List ℕ) (at v a r room rest : ℕ) → v ≡ next_value text at → a ≡ next_place text at → r ≡ place_after text a (min v room) → room ≡ rest → r ≡ part_place text at rest
 unfolding part_place
 part_place_lem text at v a r room rest e f g h = g ∙ ap (λ (k : ℕ). place_after text k (min v room)) f ∙ ap (λ (k : ℕ). place_after text (next_place text at) (min k room)) e
@@ -190,15 +139,6 @@ part_place_lem text at v a r room rest e f g h = g ∙ ap (λ (k : ℕ). place_a
 pub onward_none : (d : List ℕ) (at : ℕ) → Onward d at d at
 onward_none d at = record { on = omega arith; within = λ h. h; same = refl; kept = λ k h. refl }
 
-pub onward_put : (d : List ℕ) (at b : ℕ) → at < length d → Onward d at (set d at b) (at + 1)
-onward_put d at b h =
-    record {
-      on = omega arith;
-      within = λ g. omega arith;
-      same = length-set d at b;
-      kept = λ k g. get_or-set_other d at k b 0 (λ e. omega (arith, e));
-    }
-
 pub onward_then : (d d' d'' : List ℕ) (at at' at'' : ℕ) → Onward d at d' at' → Onward d' at' d'' at'' → Onward d at d'' at''
 onward_then d d' d'' at at' at'' p q =
     record {
@@ -208,34 +148,14 @@ onward_then d d' d'' at at' at'' p q =
       kept = λ k h. q.kept k (omega (arith, p.on)) ∙ p.kept k h;
     }
 
--- ---- sizes
+-- ---- the same buffer, written on
 
-pub size_tall : (rows w : ℕ) → 4096 < rows → 0 ≡ table_size rows w
-unfolding table_size
-size_tall rows w h = sym (rw (lt-ltb 4096 rows h))
+pub continues_none : (t : Told) → Continues t t
+continues_none t = record { same_buffer = refl; onward = onward_none t.bytes.now t.end }
 
-pub size_wide : (rows w : ℕ) → rows ≤ 4096 → 64 < w → 0 ≡ table_size rows w
-unfolding table_size
-size_wide rows w h g = sym (rw (le-ltb 4096 rows h, lt-ltb 64 w g))
-
-pub size_is : (rows w : ℕ) → rows ≤ 4096 → w ≤ 64 → rows * w ≡ table_size rows w
-unfolding table_size
-size_is rows w h g = sym (rw (le-ltb 4096 rows h, le-ltb 64 w g))
-
--- ---- what is not zero
-
-pub unclean_on : (rest : List Float) (i n d r : ℕ) → i < length rest → d ≡ min (to_bits binary64 (get_or rest i nan)) 1 → n + unclean_in (drop i rest) ≡ r → (n + d) + unclean_in (drop (i + 1) rest) ≡ r
-unfolding unclean_in
-unclean_on rest i n d r h f e = let g = ap unclean_in (drop-cons rest i nan h) in rw add-one (omega (arith, g, f))
-
-pub unclean_none : (rest : List Float) (i n r : ℕ) → length rest ≤ i → n + unclean_in (drop i rest) ≡ r → n ≡ r
-unfolding unclean_in
-unclean_none rest i n r h e = let g = ap unclean_in (drop_of_length-le rest h) in omega (arith, g)
-
-pub numbers_on : (rest : List ℕ) (i n d r : ℕ) → i < length rest → d ≡ min (get_or rest i 0) 1 → n + unclean_numbers_in (drop i rest) ≡ r → (n + d) + unclean_numbers_in (drop (i + 1) rest) ≡ r
-unfolding unclean_numbers_in
-numbers_on rest i n d r h f e = let g = ap unclean_numbers_in (drop-cons rest i 0 h) in rw add-one (omega (arith, g, f))
-
-pub numbers_none : (rest : List ℕ) (i n r : ℕ) → length rest ≤ i → n + unclean_numbers_in (drop i rest) ≡ r → n ≡ r
-unfolding unclean_numbers_in
-numbers_none rest i n r h e = let g = ap unclean_numbers_in (drop_of_length-le rest h) in omega (arith, g)
+pub continues_then : (t t' t'' : Told) → Continues t t' → Continues t' t'' → Continues t t''
+continues_then t t' t'' p q =
+    record {
+      same_buffer = q.same_buffer ∙ p.same_buffer;
+      onward = onward_then t.bytes.now t'.bytes.now t''.bytes.now t.end t'.end t''.end p.onward q.onward;
+    }

@@ -1,54 +1,128 @@
-// Recorded calls, for the programs that play them: hex tokens read and written, parts of lists, and how an answer is told. Every function is total.
+// Recorded calls, for the programs that play them: hex tokens read and written, parts of lists, how an answer is told, and the loop over
+// the calls of a text. Every function is total.
 #![tactic(auto)]
 
-ghost use Rattle.std.specs.Prelude.{◌≡◌, ◌++◌, ◌+◌, ◌%◌, ◌-◌, ◌<◌, ◌≤◌, min, length, take, drop};
+ghost use Rattle.std.specs.Prelude.{◌≡◌, ◌++◌, ◌+◌, ◌%◌, ◌-◌, ◌<◌, ◌≤◌, ℕ, List, [], ◌∷◌, min, fold, length, get_or, take, drop, replicate};
 ghost use Rattle.std.specs.Float.{binary64};
-ghost use Rattle.std.specs.Float.Ieee.{of_bits};
+ghost use Rattle.std.specs.Float.Ieee.{of_bits, to_bits};
 ghost use Rattle.lent.specs.Grid.{tab, over};
 ghost use Rattle.lent.specs.Lent.{is_set, shape_of, answer_tells};
 ghost use Rattle.recorded.specs.Tokens.{worth_of, token_start, token_end, token_value, next_value, next_place, place_after, token_at, part_place, matrix_place, matrices_place};
-ghost use Rattle.recorded.specs.Told.{Onward, table_size, answered_rows, answered_columns, answered_assets, unclean_in, unclean_numbers_in};
+ghost use Rattle.recorded.specs.Told.{Onward, Continues, table_size, answered_rows, answered_columns, answered_assets, unclean_in, unclean_numbers_in};
+ghost use Rattle.recorded.specs.Entries.{no_double, one_double, no_number, one_number};
 
-use lent::{Answer, Shape};
-use refusal::{Outcome, Refusal};
+use lent::Size;
+use refusal::Refusal;
 
-// A number that was read, and the place after it.
-#[derive(Clone, Copy)]
-pub struct Item {
-    pub value: u64,
-    pub at: usize,
+// What a token stands for: a double by its bits, a number, or a byte.
+pub trait Entry: Copy {
+    ghost of_token: { ℕ → Self };
+
+    ghost token: { Self → ℕ };
+
+    // How many entries of a list are not zero.
+    ghost unclean: { List Self → ℕ };
+
+    // How many digits are written at least.
+    const WIDTH: usize;
+
+    fn from_token(number: u64) -> Self
+        ensures { result ≡ of_token number };
+
+    fn token(self) -> u64
+        ensures { result ≡ token self };
+
+    ghost unclean_none: { unclean [] ≡ 0 };
+
+    ghost unclean_one: { (x : Self) (xs : List Self) → unclean (x ∷ xs) ≡ min (token x) 1 + unclean xs };
 }
 
-// Where reading and writing stand.
-#[derive(Clone, Copy)]
-pub struct Place {
-    pub at: usize,
-    pub end: usize,
+impl Entry for f64 {
+    ghost of_token = { of_bits binary64 };
+
+    ghost token = { to_bits binary64 };
+
+    ghost unclean = { unclean_in };
+
+    const WIDTH: usize = 16;
+
+    fn from_token(number: u64) -> f64 {
+        arithmetic::from_bits(number)
+    }
+
+    fn token(self) -> u64 {
+        arithmetic::to_bits(self)
+    }
+
+    ghost unclean_none = { no_double };
+
+    ghost unclean_one = { one_double };
 }
 
-// A matrix of an account that was read, and the place after it.
+impl Entry for usize {
+    ghost of_token = { λ n. n };
+
+    ghost token = { λ n. n };
+
+    ghost unclean = { unclean_numbers_in };
+
+    const WIDTH: usize = 1;
+
+    fn from_token(number: u64) -> usize {
+        number as usize
+    }
+
+    fn token(self) -> u64 {
+        self as u64
+    }
+
+    ghost unclean_none = { no_number };
+
+    ghost unclean_one = { one_number };
+}
+
+impl Entry for u8 {
+    ghost of_token = { λ n. n % 256 };
+
+    ghost token = { λ n. n };
+
+    ghost unclean = { unclean_numbers_in };
+
+    const WIDTH: usize = 1;
+
+    fn from_token(number: u64) -> u8 {
+        (number % 256) as u8
+    }
+
+    fn token(self) -> u64 {
+        self as u64
+    }
+
+    ghost unclean_none = { no_number };
+
+    ghost unclean_one = { one_number };
+}
+
+// A matrix of an account that was read, but for its cells.
 #[derive(Clone, Copy)]
 pub struct Given {
-    pub shape: Shape,
+    pub shape: Option<Size>,
     pub len: usize,
-    pub at: usize,
 }
 
-// The three matrices of an account but for their cells, and the place after them.
+// The three matrices of an account.
 #[derive(Clone, Copy)]
 pub struct Matrices {
     pub prices: Given,
     pub returns: Given,
     pub covariance: Given,
-    pub at: usize,
 }
 
-// Expected returns that were read but for their doubles, and the place after them.
+// Expected returns that were read, but for their doubles.
 #[derive(Clone, Copy)]
 pub struct Expected {
     pub given: bool,
     pub len: usize,
-    pub at: usize,
 }
 
 // The doubles of a call stand in one list, each part from a place of its own on, the first matrix from 0. None is longer than its part.
@@ -58,406 +132,337 @@ pub const COVARIANCE: usize = 8704;
 
 pub const EXPECTED: usize = 13056;
 
+// ---- parts of lists
+
+// Everything from `start` on.
+pub fn past<T>(list: &[T], start: usize) -> &[T]
+    ensures { result.now ≡ drop start list.now }
+{
+    &list[start.min(list.len())..]
+}
+
+// The first `len` entries, as many as there are.
+pub fn front<T>(list: &[T], len: usize) -> &[T]
+    ensures { result.now ≡ take len list.now }
+{
+    &list[..len.min(list.len())]
+}
+
+// The part of a buffer that is lent.
+pub fn front_mut<T>(list: &mut [T], len: usize) -> &mut [T]
+    ensures { result.now ≡ take len list.old }
+{
+    let to = len.min(list.len());
+    &mut list[..to]
+}
+
+// The `len` entries from `start` on, as many as there are.
+pub fn part<T>(list: &[T], start: usize, len: usize) -> &[T]
+    ensures { result.now ≡ take len (drop start list.now) }
+{
+    front(past(list, start), len)
+}
+
 // ---- reading
 
 // What a hex digit is worth; any other byte is worth something below 16 too.
+#[tactic(auto, using(crate::proofs::Laws::worth_low, crate::proofs::Laws::worth_high))]
 fn worth(c: u8) -> u64
     ensures upper_bound { result < 16 }
     ensures value { result ≡ worth_of c }
 {
-    if c < 97 {
+    if c < b'a' {
         c as u64 % 16
     } else {
         (c as u64 - 87) % 16
     }
 }
 
-// The place of the first byte from `at` on that is neither space nor newline.
-fn skip(text: &[u8], at: usize) -> usize
-    ensures { result ≡ token_start (drop at text.now) at }
-{
-    let mut i = at;
-    while i < text.len() {
-        if 32 < text[i] {
-            return i;
+// Hex tokens, parted by spaces and newlines, and the place up to which they were read.
+#[derive(Drop)]
+pub struct Tokens<'a> {
+    pub text: &'a [u8],
+    pub at: usize,
+}
+
+impl<'a> Tokens<'a> {
+    pub fn new(text: &'a [u8]) -> Tokens<'a>
+        ensures text_value { result.text.now ≡ text.now }
+        ensures at_value { result.at ≡ 0 }
+    {
+        Tokens { text, at: 0 }
+    }
+
+    // To the first byte that is neither space nor newline.
+    fn skip(&mut self)
+        ensures same_text { self.new.text.now ≡ self.old.text.now }
+        ensures at_after { self.new.at ≡ token_start (drop self.old.at self.old.text.now) self.old.at }
+    {
+        while self.at < self.text.len() && self.text[self.at] <= b' ' {
+            self.at += 1;
         }
-        i += 1;
     }
-    i
-}
 
-// The number whose digits begin at `at`.
-fn number(text: &[u8], at: usize) -> Item
-    ensures value_value { result.value ≡ token_value (drop at text.now) 0 }
-    ensures at_value { result.at ≡ token_end (drop at text.now) at }
-{
-    let mut w: u64 = 0;
-    let mut i = at;
-    while i < text.len() {
-        if text[i] <= 32 {
-            return Item { value: w, at: i };
+    // The number whose digits begin here.
+    fn number(&mut self) -> u64
+        ensures value { result ≡ token_value (drop self.old.at self.old.text.now) 0 }
+        ensures same_text { self.new.text.now ≡ self.old.text.now }
+        ensures at_after { self.new.at ≡ token_end (drop self.old.at self.old.text.now) self.old.at }
+    {
+        let mut w = 0;
+        while self.at < self.text.len() && b' ' < self.text[self.at] {
+            w = w % 0x1000_0000_0000_0000 * 16 + worth(self.text[self.at]);
+            self.at += 1;
         }
-        w = w % 0x1000_0000_0000_0000 * 16 + worth(text[i]);
-        i += 1;
+        w
     }
-    Item { value: w, at: i }
-}
 
-// The first number from `at` on.
-pub fn next(text: &[u8], at: usize) -> Item
-    ensures value_value { result.value ≡ next_value text.now at }
-    ensures at_value { result.at ≡ next_place text.now at }
-{
-    number(text, skip(text, at))
-}
-
-// The next `len` numbers as doubles by their bits, as many as there is room for. Answers the place after them.
-pub fn doubles(text: &[u8], at: usize, len: usize, cells: &mut [f64]) -> usize
-    ensures value { result ≡ place_after text.now at (min len (length cells.old)) }
-    ensures cells_after { cells.new ≡ over (tab (min len (length cells.old)) (λ k. of_bits binary64 (token_at text.now at k))) cells.old }
-{
-    let count = least(len, cells.len());
-    let mut here = at;
-    for i in 0..count {
-        let item = next(text, here);
-        cells[i] = arithmetic::from_bits(item.value);
-        here = item.at;
+    // The next token.
+    pub fn next<T: Entry>(&mut self) -> T
+        ensures value { result ≡ T.of_token (next_value self.old.text.now self.old.at) }
+        ensures same_text { self.new.text.now ≡ self.old.text.now }
+        ensures at_after { self.new.at ≡ next_place self.old.text.now self.old.at }
+    {
+        self.skip();
+        T::from_token(self.number())
     }
-    here
-}
 
-pub fn numbers(text: &[u8], at: usize, len: usize, ids: &mut [usize]) -> usize
-    ensures value { result ≡ place_after text.now at (min len (length ids.old)) }
-    ensures ids_after { ids.new ≡ over (tab (min len (length ids.old)) (λ k. token_at text.now at k)) ids.old }
-{
-    let count = least(len, ids.len());
-    let mut here = at;
-    for i in 0..count {
-        let item = next(text, here);
-        ids[i] = item.value as usize;
-        here = item.at;
+    // The next `len` tokens, as many as there is room for.
+    pub fn fill<T: Entry>(&mut self, list: &mut [T], len: usize)
+        ensures same_text { self.new.text.now ≡ self.old.text.now }
+        ensures at_after { self.new.at ≡ place_after self.old.text.now self.old.at (min len (length list.old)) }
+        ensures list_after { list.new
+            ≡ over (tab (min len (length list.old)) (λ k. T.of_token (token_at self.old.text.now self.old.at k))) list.old }
+    {
+        for i in 0..len.min(list.len()) {
+            list[i] = self.next();
+        }
     }
-    here
-}
 
-pub fn bytes(text: &[u8], at: usize, len: usize, name: &mut [u8]) -> usize
-    ensures value { result ≡ place_after text.now at (min len (length name.old)) }
-    ensures name_after { name.new ≡ over (tab (min len (length name.old)) (λ k. token_at text.now at k % 256)) name.old }
-{
-    let count = least(len, name.len());
-    let mut here = at;
-    for i in 0..count {
-        let item = next(text, here);
-        name[i] = (item.value % 256) as u8;
-        here = item.at;
+    // Entries to the place `start` on, after how many they are. Answers that.
+    pub fn fill_from<T: Entry>(&mut self, list: &mut [T], start: usize) -> usize
+        ensures value { result ≡ next_value self.old.text.now self.old.at }
+        ensures same_text { self.new.text.now ≡ self.old.text.now }
+        ensures at_after { self.new.at ≡ part_place self.old.text.now self.old.at (length list.old - start) }
+    {
+        let count = self.next();
+        let from = start.min(list.len());
+        self.fill(&mut list[from..], count);
+        count
     }
-    here
-}
 
-// Doubles to the place `start` on, after how many they are. Answers that, and the place after them in the text.
-pub fn doubles_to(text: &[u8], at: usize, cells: &mut [f64], start: usize) -> Item
-    ensures value_value { result.value ≡ next_value text.now at }
-    ensures at_value { result.at ≡ part_place text.now at (length cells.old - start) }
-{
-    let count = next(text, at);
-    let from = least(start, cells.len());
-    let at = doubles(text, count.at, count.value as usize, &mut cells[from..]);
-    Item {
-        value: count.value,
-        at,
+    // A matrix of an account, its cells to the place `start` on.
+    pub fn matrix(&mut self, cells: &mut [f64], start: usize) -> Given
+        ensures shape_value { result.shape ≡ shape_of (is_set (token_at self.old.text.now self.old.at 0))
+            (token_at self.old.text.now self.old.at 1) (token_at self.old.text.now self.old.at 2) }
+        ensures len_value { result.len ≡ token_at self.old.text.now self.old.at 3 }
+        ensures same_text { self.new.text.now ≡ self.old.text.now }
+        ensures at_after { self.new.at ≡ matrix_place self.old.text.now self.old.at (length cells.old - start) }
+    {
+        let given: usize = self.next();
+        let rows = self.next();
+        let columns = self.next();
+        let len = self.fill_from(cells, start);
+        let shape = lent::shape_if(given != 0, rows, columns);
+        Given { shape, len }
     }
-}
 
-pub fn bytes_to(text: &[u8], at: usize, names: &mut [u8], start: usize) -> Item
-    ensures value_value { result.value ≡ next_value text.now at }
-    ensures at_value { result.at ≡ part_place text.now at (length names.old - start) }
-{
-    let count = next(text, at);
-    let from = least(start, names.len());
-    let at = bytes(text, count.at, count.value as usize, &mut names[from..]);
-    Item {
-        value: count.value,
-        at,
+    // Prices, returns and covariance, one after the other.
+    pub fn matrices(&mut self, cells: &mut [f64]) -> Matrices
+        ensures same_text { self.new.text.now ≡ self.old.text.now }
+        ensures at_after { self.new.at ≡ matrices_place self.old.text.now self.old.at (length cells.old) }
+    {
+        let prices = self.matrix(cells, 0);
+        let returns = self.matrix(cells, RETURNS);
+        let covariance = self.matrix(cells, COVARIANCE);
+        Matrices {
+            prices,
+            returns,
+            covariance,
+        }
     }
-}
 
-// A matrix of an account, its cells to the place `start` on.
-pub fn matrix_to(text: &[u8], at: usize, cells: &mut [f64], start: usize) -> Given
-    ensures shape_value { result.shape ≡ shape_of (is_set (token_at text.now at 0)) (token_at text.now at 1) (token_at text.now at 2) }
-    ensures len_value { result.len ≡ token_at text.now at 3 }
-    ensures at_value { result.at ≡ matrix_place text.now at (length cells.old - start) }
-{
-    let given = next(text, at);
-    let rows = next(text, given.at);
-    let columns = next(text, rows.at);
-    let len = doubles_to(text, columns.at, cells, start);
-    let shape = lent::shape_if(
-        given.value != 0,
-        rows.value as usize,
-        columns.value as usize,
-    );
-    Given {
-        shape,
-        len: len.value as usize,
-        at: len.at,
+    // Whether expected returns are given, and their doubles to the place EXPECTED on.
+    pub fn expected(&mut self, cells: &mut [f64]) -> Expected
+        ensures given_value { result.given ≡ is_set (token_at self.old.text.now self.old.at 0) }
+        ensures len_value { result.len ≡ token_at self.old.text.now self.old.at 1 }
+        ensures same_text { self.new.text.now ≡ self.old.text.now }
+        ensures at_after { self.new.at
+            ≡ part_place self.old.text.now (next_place self.old.text.now self.old.at) (length cells.old - 13056) }
+    {
+        let given: usize = self.next();
+        let len = self.fill_from(cells, EXPECTED);
+        Expected {
+            given: given != 0,
+            len,
+        }
     }
-}
-
-// Prices, returns and covariance, one after the other.
-pub fn matrices_to(text: &[u8], at: usize, cells: &mut [f64]) -> Matrices
-    ensures { result.at ≡ matrices_place text.now at (length cells.old) }
-{
-    let prices = matrix_to(text, at, cells, 0);
-    let returns = matrix_to(text, prices.at, cells, RETURNS);
-    let covariance = matrix_to(text, returns.at, cells, COVARIANCE);
-    Matrices {
-        prices,
-        returns,
-        covariance,
-        at: covariance.at,
-    }
-}
-
-// Whether expected returns are given, and their doubles to the place EXPECTED on.
-pub fn expected_to(text: &[u8], at: usize, cells: &mut [f64]) -> Expected
-    ensures given_value { result.given ≡ is_set (token_at text.now at 0) }
-    ensures len_value { result.len ≡ token_at text.now at 1 }
-    ensures at_value { result.at ≡ part_place text.now (next_place text.now at) (length cells.old - 13056) }
-{
-    let given = next(text, at);
-    let len = doubles_to(text, given.at, cells, EXPECTED);
-    Expected {
-        given: given.value != 0,
-        len: len.value as usize,
-        at: len.at,
-    }
-}
-
-// ---- parts of lists
-
-pub fn least(a: usize, b: usize) -> usize
-    ensures upper_bound { result ≤ b }
-    ensures value { result ≡ min a b }
-{
-    if a < b { a } else { b }
-}
-
-// The `len` cells from `start` on, as many as there are.
-pub fn part(cells: &[f64], start: usize, len: usize) -> &[f64]
-    ensures { result.now ≡ take len (drop start cells.now) }
-{
-    let from = least(start, cells.len());
-    let to = from + least(len, cells.len() - from);
-    &cells[from..to]
-}
-
-pub fn byte_part(bytes: &[u8], start: usize, len: usize) -> &[u8]
-    ensures { result.now ≡ take len (drop start bytes.now) }
-{
-    let from = least(start, bytes.len());
-    let to = from + least(len, bytes.len() - from);
-    &bytes[from..to]
-}
-
-pub fn front(ids: &[usize], len: usize) -> &[usize]
-    ensures { result.now ≡ take len ids.now }
-{
-    let to = least(len, ids.len());
-    &ids[..to]
-}
-
-// The part of a buffer that is lent.
-pub fn lent_cells(cells: &mut [f64], room: usize) -> &mut [f64]
-    ensures { result.now ≡ take room cells.old }
-{
-    let to = least(room, cells.len());
-    &mut cells[..to]
-}
-
-pub fn lent_ids(ids: &mut [usize], room: usize) -> &mut [usize]
-    ensures { result.now ≡ take room ids.old }
-{
-    let to = least(room, ids.len());
-    &mut ids[..to]
 }
 
 // ---- writing
 
-// Puts one byte at `end`, where there is room. Answers the place after it.
-fn put(told: &mut [u8], end: usize, byte: u8) -> usize
-    ensures { Onward told.old end told.new result }
-{
-    if end < told.len() {
-        told[end] = byte;
-        return end + 1;
+// What was told so far: the first `end` bytes of a buffer.
+#[derive(Drop)]
+pub struct Told<'a> {
+    pub bytes: &'a mut [u8],
+    pub end: usize,
+}
+
+#[tactic(auto, using(crate::proofs::Laws::continues_none, crate::proofs::Laws::continues_then))]
+impl<'a> Told<'a> {
+    pub fn new(bytes: &'a mut [u8]) -> Told<'a>
+        ensures same_buffer { result.bytes.ghost_name ≡ bytes.entry.ghost_name }
+        ensures bytes_value { result.bytes.now ≡ bytes.old }
+        ensures end_value { result.end ≡ 0 }
+    {
+        Told { bytes, end: 0 }
     }
-    end
-}
 
-fn put_all(told: &mut [u8], end: usize, digits: &[u8]) -> usize
-    ensures { Onward told.old end told.new result }
-{
-    let mut place = end;
-    let mut i = 0;
-    while i < digits.len() {
-        place = put(told, place, digits[i]);
-        i += 1;
+    // One byte, where there is room.
+    fn put_byte(&mut self, byte: u8)
+        ensures { Continues self.old self.new }
+    {
+        if self.end < self.bytes.len() {
+            self.bytes[self.end] = byte;
+            self.end += 1;
+        }
     }
-    place
-}
 
-// Puts a number's hex digits, at least `width` of them, and the byte `after`.
-pub fn put_hex(told: &mut [u8], end: usize, n: u64, width: usize, after: u8) -> usize
-    ensures { Onward told.old end told.new result }
-{
-    let mut digits = [0u8; 16];
-    let k = io::hex(n, width, &mut digits);
-    let place = put_all(told, end, &digits[..k]);
-    put(told, place, after)
-}
-
-pub fn put_doubles(told: &mut [u8], end: usize, cells: &[f64]) -> usize
-    ensures { Onward told.old end told.new result }
-{
-    let mut place = end;
-    let mut i = 0;
-    while i < cells.len() {
-        place = put_hex(told, place, arithmetic::to_bits(cells[i]), 16, 32);
-        i += 1;
+    fn put_bytes(&mut self, bytes: &[u8])
+        ensures { Continues self.old self.new }
+    {
+        for byte in bytes {
+            self.put_byte(*byte);
+        }
     }
-    place
-}
 
-pub fn put_numbers(told: &mut [u8], end: usize, ids: &[usize]) -> usize
-    ensures { Onward told.old end told.new result }
-{
-    let mut place = end;
-    let mut i = 0;
-    while i < ids.len() {
-        place = put_hex(told, place, ids[i] as u64, 1, 32);
-        i += 1;
+    // An entry's hex digits, and the byte `after`.
+    pub fn put<T: Entry>(&mut self, x: T, after: u8)
+        ensures { Continues self.old self.new }
+    {
+        let mut digits = [0u8; 16];
+        let k = io::hex(x.token(), T::WIDTH, &mut digits);
+        self.put_bytes(&digits[..k]);
+        self.put_byte(after);
     }
-    place
-}
 
-// The first `count` entries, after how many they are.
-pub fn put_front(told: &mut [u8], end: usize, cells: &[f64], count: usize) -> usize
-    ensures { Onward told.old end told.new result }
-{
-    let first = part(cells, 0, count);
-    let sized = put_hex(told, end, first.len() as u64, 1, 32);
-    put_doubles(told, sized, first)
-}
-
-pub fn put_front_numbers(told: &mut [u8], end: usize, ids: &[usize], count: usize) -> usize
-    ensures { Onward told.old end told.new result }
-{
-    let first = front(ids, count);
-    let sized = put_hex(told, end, first.len() as u64, 1, 32);
-    put_numbers(told, sized, first)
-}
-
-// A refusal's number or 0, and an answer's rows and columns.
-pub fn put_sizes(told: &mut [u8], end: usize, refusal: u8, rows: usize, columns: usize) -> usize
-    ensures { Onward told.old end told.new result }
-{
-    let first = put_hex(told, end, refusal as u64, 1, 32);
-    let second = put_hex(told, first, rows as u64, 1, 32);
-    put_hex(told, second, columns as u64, 1, 32)
-}
-
-// A refusal's number, and after 6 the count that was asked for and the assets.
-fn put_refusal(told: &mut [u8], end: usize, r: Refusal) -> usize
-    ensures { Onward told.old end told.new result }
-{
-    let k = refusal::number(r);
-    let place = put_hex(told, end, k as u64, 1, 32);
-    if k != 6 {
-        return place;
+    pub fn put_list<T: Entry>(&mut self, list: &[T])
+        ensures { Continues self.old self.new }
+    {
+        for x in list {
+            self.put(*x, b' ');
+        }
     }
-    let asked = put_hex(told, place, refusal::requested(r) as u64, 1, 32);
-    put_hex(told, asked, refusal::assets(r) as u64, 1, 32)
-}
 
-pub fn put_outcome(told: &mut [u8], end: usize, outcome: Outcome) -> usize
-    ensures { Onward told.old end told.new result }
-{
-    match outcome {
-        Outcome::Done => put_hex(told, end, 0, 1, 32),
-        Outcome::Refused(r) => put_refusal(told, end, r),
+    // The first `count` entries, after how many they are.
+    pub fn put_front<T: Entry>(&mut self, list: &[T], count: usize)
+        ensures { Continues self.old self.new }
+    {
+        let first = front(list, count);
+        self.put(first.len(), b' ');
+        self.put_list(first);
     }
-}
 
-// The last token of an answer, how many entries are not zero that should be.
-pub fn put_last(told: &mut [u8], end: usize, unclean: usize) -> usize
-    ensures { Onward told.old end told.new result }
-{
-    put_hex(told, end, unclean as u64, 1, 10)
+    // A refusal's number or 0, and an answer's rows and columns.
+    pub fn put_sizes(&mut self, refusal: u8, rows: usize, columns: usize)
+        ensures { Continues self.old self.new }
+    {
+        self.put(refusal, b' ');
+        self.put(rows, b' ');
+        self.put(columns, b' ');
+    }
+
+    // A refusal's number, and after 6 the count that was asked for and the assets.
+    fn put_refusal(&mut self, r: Refusal)
+        ensures { Continues self.old self.new }
+    {
+        self.put(r.number(), b' ');
+        if let Refusal::InvalidNumClusters { requested, assets } = r {
+            self.put(requested, b' ');
+            self.put(assets, b' ');
+        }
+    }
+
+    pub fn put_outcome(&mut self, outcome: Result<(), Refusal>)
+        ensures { Continues self.old self.new }
+    {
+        match outcome {
+            Ok(()) => self.put(0usize, b' '),
+            Err(r) => self.put_refusal(r),
+        }
+    }
+
+    // The last token of an answer, how many entries are not zero that should be.
+    pub fn put_last(&mut self, unclean: usize)
+        ensures { Continues self.old self.new }
+    {
+        self.put(unclean, b'\n');
+    }
+
+    // An answer's line: its sizes, its cells, and how many entries past them are not zero.
+    pub fn put_answer<T: Entry>(&mut self, answer: Result<Size, Refusal>, out: &[T])
+        ensures { Continues self.old self.new }
+    {
+        let rows = rows_of(answer);
+        let columns = columns_of(answer);
+        let count = product(rows, columns);
+        self.put_sizes(refusal_of(answer), rows, columns);
+        self.put_list(front(out, count));
+        self.put_last(unclean(past(out, count)));
+    }
 }
 
 // ---- answers
 
 // Rows times columns; 0 for sizes that no answer has.
+#[tactic(auto, unfolding(crate::specs::Told::table_size))]
 pub fn product(rows: usize, columns: usize) -> usize
     ensures { result ≡ table_size rows columns }
 {
-    if 4096 < rows {
-        return 0;
+    if 4096 < rows || 64 < columns {
+        0
+    } else {
+        rows * columns
     }
-    if 64 < columns {
-        return 0;
-    }
-    rows * columns
 }
 
-pub fn rows_of(answer: Answer) -> usize
+#[tactic(auto, unfolding(crate::specs::Told::answered_rows))]
+pub fn rows_of(answer: Result<Size, Refusal>) -> usize
     ensures { result ≡ answered_rows answer }
 {
-    match answer {
-        Answer::Matrix { rows, columns: _ } => rows,
-        Answer::Refused(_) => 0,
-    }
+    answer.map_or(0, |s| s.rows)
 }
 
-pub fn columns_of(answer: Answer) -> usize
+#[tactic(auto, unfolding(crate::specs::Told::answered_columns))]
+pub fn columns_of(answer: Result<Size, Refusal>) -> usize
     ensures { result ≡ answered_columns answer }
 {
-    match answer {
-        Answer::Matrix { rows: _, columns } => columns,
-        Answer::Refused(_) => 0,
-    }
+    answer.map_or(0, |s| s.columns)
 }
 
-fn refusal_of(answer: Answer) -> u8
+#[tactic(auto, unfolding(lent::specs::Lent::answer_tells))]
+fn refusal_of(answer: Result<Size, Refusal>) -> u8
     ensures { result ≡ (answer_tells answer).number }
 {
     match answer {
-        Answer::Matrix {
-            rows: _,
-            columns: _,
-        } => 0,
-        Answer::Refused(r) => refusal::number(r),
+        Ok(_) => 0,
+        Err(r) => r.number(),
     }
 }
 
 // The assets of an account that was not refused.
-pub fn answered(outcome: Outcome, assets: usize) -> usize
+#[tactic(auto, unfolding(crate::specs::Told::answered_assets))]
+pub fn answered(outcome: Result<(), Refusal>, assets: usize) -> usize
     ensures { result ≡ answered_assets outcome assets }
 {
-    match outcome {
-        Outcome::Done => assets,
-        Outcome::Refused(_) => 0,
-    }
+    outcome.map_or(0, |()| assets)
 }
 
 // How many ids the rows of n assets have.
 pub fn ids_of(n: usize) -> usize
     ensures { result ≡ table_size 2 (n - 1) }
 {
-    if n == 0 {
-        return product(2, 0);
-    }
-    product(2, n - 1)
+    product(2, n.saturating_sub(1))
 }
 
 // Two counts together, each far below the limit here.
@@ -467,98 +472,134 @@ pub fn plus(a: usize, b: usize) -> usize
     a % 0x1000_0000 + b % 0x1000_0000
 }
 
-// How many doubles are not +0.
-pub fn unclean(rest: &[f64]) -> usize
-    ensures { result ≡ unclean_in rest.now }
+// Many counts together, by `plus` from the first to the last.
+pub fn total(counts: &[usize]) -> usize
+    ensures { result ≡ fold (λ sum count. sum % 268435456 + count % 268435456) 0 counts.now }
+{
+    counts.iter().fold(0, |sum, count| plus(sum, *count))
+}
+
+// How many entries are not zero.
+pub fn unclean<T: Entry>(rest: &[T]) -> usize
+    ensures { result ≡ T.unclean rest.now }
 {
     let mut n = 0;
-    let mut i = 0;
-    while i < rest.len() {
-        n += unzero(arithmetic::to_bits(rest[i]));
-        i += 1;
+    for x in rest {
+        if x.token() != 0 {
+            n += 1;
+        }
     }
     n
 }
 
-pub fn unclean_numbers(rest: &[usize]) -> usize
-    ensures { result ≡ unclean_numbers_in rest.now }
-{
-    let mut n = 0;
-    let mut i = 0;
-    while i < rest.len() {
-        n += unzero(rest[i] as u64);
-        i += 1;
+// ---- buffers
+
+// A buffer of which the first `room` entries are lent.
+#[derive(Drop)]
+pub struct Buffer<T, const N: usize> {
+    pub entries: [T; N],
+    pub room: usize,
+}
+
+impl<T: Entry, const N: usize> Buffer<T, N> {
+    // Junk throughout, of which nothing is lent yet.
+    pub fn new(junk: T) -> Buffer<T, N>
+        ensures entries_value { result.entries ≡ replicate N junk }
+        ensures room_value { result.room ≡ 0 }
+    {
+        Buffer {
+            entries: [junk; N],
+            room: 0,
+        }
     }
-    n
-}
 
-pub fn unclean_bytes(rest: &[u8]) -> usize
-    ensures { result ≡ unclean_numbers_in rest.now }
-{
-    let mut n = 0;
-    let mut i = 0;
-    while i < rest.len() {
-        n += unzero(wide(rest[i]));
-        i += 1;
+    pub fn lend(&mut self) -> &mut [T]
+        ensures { result.now ≡ take self.old.room self.old.entries }
+    {
+        let entries = &mut self.entries;
+        front_mut(&mut entries[..], self.room)
     }
-    n
+
+    // How many entries of what is lent are not zero, past the first `count`.
+    pub fn unclean_past(&self, count: usize) -> usize
+        ensures { result ≡ T.unclean (drop count (take self.now.room self.now.entries)) }
+    {
+        unclean(past(front(&self.entries, self.room), count))
+    }
 }
 
-// A byte as a number.
-fn wide(byte: u8) -> u64
-    ensures { result ≡ byte }
-{
-    byte as u64
-}
+// ---- programs
 
-// 1 for a number that is not 0.
-fn unzero(n: u64) -> usize
-    ensures upper_bound { result ≤ 1 }
-    ensures value { result ≡ min n 1 }
+// The choice that a code stands for, and the other one for any larger code.
+pub fn choice<T: Copy>(code: usize, choices: &[T], other: T) -> T
+    ensures { result ≡ get_or choices.now code other }
 {
-    if n == 0 { 0 } else { 1 }
-}
-
-// How many entries past the first `count` are not zero.
-pub fn unclean_past(cells: &[f64], count: usize) -> usize
-    ensures { result ≡ unclean_in (drop count cells.now) }
-{
-    unclean(part(cells, count, cells.len()))
-}
-
-pub fn unclean_numbers_past(ids: &[usize], count: usize) -> usize
-    ensures { result ≡ unclean_numbers_in (drop count ids.now) }
-{
-    let k = least(count, ids.len());
-    unclean_numbers(&ids[k..])
-}
-
-// An answer's line: its sizes, its cells, and how many entries past them are not zero.
-pub fn tell(answer: Answer, out: &[f64], told: &mut [u8], end: usize) -> usize
-    ensures { Onward told.old end told.new result }
-{
-    let rows = rows_of(answer);
-    let columns = columns_of(answer);
-    let count = product(rows, columns);
-    let sized = put_sizes(told, end, refusal_of(answer), rows, columns);
-    let listed = put_doubles(told, sized, part(out, 0, count));
-    put_last(told, listed, unclean_past(out, count))
-}
-
-pub fn tell_numbers(answer: Answer, out: &[usize], told: &mut [u8], end: usize) -> usize
-    ensures { Onward told.old end told.new result }
-{
-    let rows = rows_of(answer);
-    let columns = columns_of(answer);
-    let count = product(rows, columns);
-    let sized = put_sizes(told, end, refusal_of(answer), rows, columns);
-    let listed = put_numbers(told, sized, front(out, count));
-    put_last(told, listed, unclean_numbers_past(out, count))
+    if code < choices.len() {
+        choices[code]
+    } else {
+        other
+    }
 }
 
 // A mebibyte and a half of zeros. Its contract gives the length alone, so that no proof looks into it.
-pub fn space() -> [u8; 1572864]
+fn space() -> [u8; 1572864]
     ensures { 1572864 ≡ length result }
 {
     [0; 1572864]
+}
+
+// Standard input, where it could be had whole.
+pub fn with_input<F: FnOnce(&[u8])>(rt: HostRuntime, take: F)
+    requires { F.IsAlwaysCallable take }
+{
+    let mut text = space();
+    let input = channel::read_all(rt, &mut text);
+    let Some(n) = input else {
+        return;
+    };
+    take(front(&text, n));
+}
+
+// What `tell` makes of standard input, to standard output.
+pub fn answer<F: FnOnce(&[u8], &mut Told)>(rt: HostRuntime, tell: F)
+    requires { F.IsAlwaysCallable tell }
+{
+    with_input(
+        rt,
+        |text|
+            requires { F.IsAlwaysCallable tell }
+        {
+            let mut bytes = space();
+            let mut told = Told::new(&mut bytes);
+            tell(text, &mut told);
+            let end = told.end;
+            channel::write(rt, front(&bytes, end));
+        },
+    );
+}
+
+// A blank and a number, to standard output. Answers whether all was taken.
+pub fn write_number(rt: HostRuntime, n: usize) -> bool {
+    let mut digits = [0u8; 20];
+    let d = io::decimal(n as u64, &mut digits);
+    channel::write(rt, b" ") && channel::write(rt, &digits[..d])
+}
+
+// Every call of a text, each given its opcode.
+pub fn replay<F: FnMut(usize, &mut Tokens, &mut Told)>(text: &[u8], told: &mut Told, mut call: F)
+    requires { F.IsAlwaysCallable call }
+{
+    let mut tokens = Tokens::new(text);
+    while tokens.at < text.len() {
+        let at = tokens.at;
+        let code = tokens.next();
+        // No opcode is 0: nothing but spaces was left.
+        if code == 0 {
+            return;
+        }
+        call(code, &mut tokens, told);
+        if tokens.at <= at {
+            return;
+        }
+    }
 }

@@ -1,10 +1,9 @@
 -- Document 01, last paragraph. Definitions only.
 -- "For each answer that is an enum, a definition gives this paper's number and values for each of the enum's cases, and the promises use that definition."
-use Rattle.std.specs.Prelude.{ℕ, List, [], ◌∷◌}
+use Rattle.std.specs.Prelude.{ℕ, List, [], ◌∷◌, Ok, Err}
 use Rattle.refusal.specs.Refusal.{number_of, values_of}
 use Rattle.refusal.specs.declared.Refusal.{Refusal}
-use Rattle.refusal.specs.declared.Outcome.{Outcome}
-use Rattle.refusal.specs.declared.Outcome.TheVariants.{Done, Refused}
+use Rattle.refusal.specs.Table.{Outcome}
 
 -- what an answer tells: 0 and what is answered, or a refusal's number and its values
 pub record Telling (A : Type 0) : Type 0 where
@@ -21,8 +20,8 @@ refuses r = record { number = number_of r; values = values_of r; answer = [] }
 
 -- what a call tells that would answer v, by how it went
 abbrev pub tells : {A : Type 0} → Outcome → A → Telling A
-tells Done v = accepts v
-tells (Refused r) v = refuses r
+tells (Ok _) v = accepts v
+tells (Err r) v = refuses r
 
 -- the case of no answer but that it is done
 abbrev pub outcome_tells : Outcome → Telling Unit

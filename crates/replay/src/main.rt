@@ -2,14 +2,23 @@
 // of hex tokens, as oracle/README.md says. oracle/rust records them from the published Rust.
 #![tactic(auto)]
 
-use channel::Input;
 use distances::Measure;
-use lent::Answer;
-use linkage::{Joined, Linkage};
-use recorded::{Item, Place};
+use lent::Size;
+use linkage::{Linkage, Merged};
+use recorded::{Tokens, Told};
+use refusal::Refusal;
 use tree::Node;
 
-// What a call on a matrix begins with, and the place of its cells.
+const MEASURES: [Measure; 2] = [Measure::Hrp, Measure::Hcaa];
+
+const LINKAGES: [Linkage; 4] = [
+    Linkage::Single,
+    Linkage::Complete,
+    Linkage::Average,
+    Linkage::Ward,
+];
+
+// What a call on a matrix begins with.
 #[derive(Clone, Copy)]
 struct Asked {
     room: usize,
@@ -17,216 +26,144 @@ struct Asked {
     rows: usize,
     columns: usize,
     len: usize,
-    at: usize,
 }
 
 // ---- calls
 
-fn measure(parameter: usize) -> Measure {
-    if parameter == 0 {
-        Measure::Hrp
-    } else {
-        Measure::Hcaa
-    }
-}
-
-fn method(parameter: usize) -> Linkage {
-    match parameter {
-        0 => Linkage::Single,
-        1 => Linkage::Complete,
-        2 => Linkage::Average,
-        _ => Linkage::Ward,
-    }
-}
-
 // The call of an opcode 1 to 9.
-fn run(
-    code: u64,
-    parameter: usize,
-    cells: &[f64],
-    rows: usize,
-    columns: usize,
-    out: &mut [f64],
-) -> Answer {
+fn run(code: usize, h: Asked, cells: &[f64], out: &mut [f64]) -> Result<Size, Refusal> {
+    let rows = h.rows;
+    let columns = h.columns;
     match code {
-        1 => resample::resample_prices(cells, rows, columns, parameter, out),
+        1 => resample::resample_prices(cells, rows, columns, h.parameter, out),
         2 => resample::returns_from_prices(cells, rows, columns, out),
         3 => stats::covariance(cells, rows, columns, out),
         4 => stats::shrink_covariance(cells, rows, columns, out),
         5 => stats::cov2corr(cells, rows, columns, out),
         6 => stats::mean_expected_returns(cells, rows, columns, out),
         7 => stats::exponential_expected_returns(cells, rows, columns, out),
-        8 => distances::corr_to_distances(measure(parameter), cells, rows, columns, out),
+        8 => {
+            let measure = recorded::choice(h.parameter, &MEASURES, Measure::Hcaa);
+            distances::corr_to_distances(measure, cells, rows, columns, out)
+        }
         _ => distances::distance_of_distances(cells, rows, columns, out),
     }
 }
 
 // Only these calls have a number between the room and the rows.
-fn has_parameter(code: u64) -> bool {
-    match code {
-        1 | 8 | 10 => true,
-        _ => false,
-    }
+fn has_parameter(code: usize) -> bool {
+    matches!(code, 1 | 8 | 10)
 }
 
-fn parameter(text: &[u8], at: usize, code: u64) -> Item {
-    if has_parameter(code) {
-        return recorded::next(text, at);
-    }
-    Item { value: 0, at }
-}
-
-fn head(text: &[u8], at: usize, code: u64) -> Asked {
-    let room = recorded::next(text, at);
-    let parameter = parameter(text, room.at, code);
-    let rows = recorded::next(text, parameter.at);
-    let columns = recorded::next(text, rows.at);
-    let len = recorded::next(text, columns.at);
+fn head(code: usize, tokens: &mut Tokens) -> Asked {
     Asked {
-        room: room.value as usize,
-        parameter: parameter.value as usize,
-        rows: rows.value as usize,
-        columns: columns.value as usize,
-        len: len.value as usize,
-        at: len.at,
+        room: tokens.next(),
+        parameter: if has_parameter(code) {
+            tokens.next()
+        } else {
+            0
+        },
+        rows: tokens.next(),
+        columns: tokens.next(),
+        len: tokens.next(),
     }
 }
 
 // A matrix to doubles.
-fn matrix(text: &[u8], from: Place, code: u64, told: &mut [u8]) -> Place {
+fn matrix(code: usize, tokens: &mut Tokens, told: &mut Told) {
     let mut cells = [1.5; 4352];
     let mut out = [1.5; 4352];
-    let h = head(text, from.at, code);
-    let at = recorded::doubles(text, h.at, h.len, &mut cells);
-    let room = h.room;
+    let h = head(code, tokens);
+    tokens.fill(&mut cells, h.len);
     let answer = run(
         code,
-        h.parameter,
-        recorded::part(&cells, 0, h.len),
-        h.rows,
-        h.columns,
-        recorded::lent_cells(&mut out, room),
+        h,
+        recorded::front(&cells, h.len),
+        recorded::front_mut(&mut out, h.room),
     );
-    let end = recorded::tell(answer, recorded::part(&out, 0, room), told, from.end);
-    Place { at, end }
+    told.put_answer(answer, recorded::front(&out, h.room));
 }
 
 // The rows of a merge step as a matrix of two columns.
-fn rows_of(answer: Joined) -> Answer {
+fn rows_of(answer: Result<Merged, Refusal>) -> Result<Size, Refusal> {
     match answer {
-        Joined::Made { rows, pairs: _ } => Answer::Matrix { rows, columns: 2 },
-        Joined::Refused(refusal) => Answer::Refused(refusal),
+        Ok(Merged { rows, .. }) => Ok(Size { rows, columns: 2 }),
+        Err(refusal) => Err(refusal),
     }
 }
 
 // A matrix to merge rows. The pairs looked at are not among the recorded answers.
-fn children(text: &[u8], from: Place, told: &mut [u8]) -> Place {
+fn children(tokens: &mut Tokens, told: &mut Told) {
     let mut cells = [1.5; 4352];
     let mut out = [7usize; 512];
-    let h = head(text, from.at, 10);
-    let at = recorded::doubles(text, h.at, h.len, &mut cells);
-    let room = h.room;
+    let h = head(10, tokens);
+    tokens.fill(&mut cells, h.len);
     let answer = linkage::linkage_children(
-        recorded::part(&cells, 0, h.len),
+        recorded::front(&cells, h.len),
         h.rows,
         h.columns,
-        method(h.parameter),
-        recorded::lent_ids(&mut out, room),
+        recorded::choice(h.parameter, &LINKAGES, Linkage::Ward),
+        recorded::front_mut(&mut out, h.room),
     );
-    let end = recorded::tell_numbers(rows_of(answer), recorded::front(&out, room), told, from.end);
-    Place { at, end }
+    told.put_answer(rows_of(answer), recorded::front(&out, h.room));
 }
 
 // Merge rows to a leaf order.
-fn leaves(text: &[u8], from: Place, told: &mut [u8]) -> Place {
+fn leaves(tokens: &mut Tokens, told: &mut Told) {
     let mut ids = [7usize; 512];
     let mut out = [7usize; 512];
-    let space = recorded::next(text, from.at);
-    let n = recorded::next(text, space.at);
-    let node = recorded::next(text, n.at);
-    let count = recorded::next(text, node.at);
-    let at = recorded::numbers(text, count.at, count.value as usize, &mut ids);
-    let room = space.value as usize;
+    let room = tokens.next();
+    let n = tokens.next();
+    let node = tokens.next();
+    let count = tokens.fill_from(&mut ids, 0);
     let answer = tree::quasi_diagonalization(
-        recorded::front(&ids, count.value as usize),
-        n.value as usize,
-        Node(node.value as usize),
-        recorded::lent_ids(&mut out, room),
+        recorded::front(&ids, count),
+        n,
+        Node(node),
+        recorded::front_mut(&mut out, room),
     );
-    let end = recorded::tell_numbers(answer, recorded::front(&out, room), told, from.end);
-    Place { at, end }
+    told.put_answer(answer, recorded::front(&out, room));
 }
 
 // A matrix and a leaf order to a matrix.
-fn seriated(text: &[u8], from: Place, told: &mut [u8]) -> Place {
+fn seriated(tokens: &mut Tokens, told: &mut Told) {
     let mut cells = [1.5; 4352];
     let mut order = [7usize; 512];
     let mut out = [1.5; 4352];
-    let h = head(text, from.at, 12);
-    let past = recorded::doubles(text, h.at, h.len, &mut cells);
-    let count = recorded::next(text, past);
-    let at = recorded::numbers(text, count.at, count.value as usize, &mut order);
-    let room = h.room;
+    let h = head(12, tokens);
+    tokens.fill(&mut cells, h.len);
+    let count = tokens.fill_from(&mut order, 0);
     let answer = tree::seriate_matrix(
-        recorded::part(&cells, 0, h.len),
+        recorded::front(&cells, h.len),
         h.rows,
         h.columns,
-        recorded::front(&order, count.value as usize),
-        recorded::lent_cells(&mut out, room),
+        recorded::front(&order, count),
+        recorded::front_mut(&mut out, h.room),
     );
-    let end = recorded::tell(answer, recorded::part(&out, 0, room), told, from.end);
-    Place { at, end }
+    told.put_answer(answer, recorded::front(&out, h.room));
 }
 
 // A name to a step.
-fn step(text: &[u8], from: Place, told: &mut [u8]) -> Place {
+fn step(tokens: &mut Tokens, told: &mut Told) {
     let mut name = [7u8; 512];
-    let named = recorded::bytes_to(text, from.at, &mut name, 0);
-    let found = resample::freq_step(recorded::byte_part(&name, 0, named.value as usize));
-    let sized = recorded::put_sizes(told, from.end, 0, 1, 1);
-    let listed = recorded::put_hex(told, sized, found as u64, 1, 32);
-    let end = recorded::put_last(told, listed, 0);
-    Place { at: named.at, end }
+    let named = tokens.fill_from(&mut name, 0);
+    let found = resample::freq_step(recorded::front(&name, named));
+    told.put_sizes(0, 1, 1);
+    told.put(found, b' ');
+    told.put_last(0);
 }
 
-// The call that begins at a place, its opcode read.
-fn call(text: &[u8], from: Place, code: u64, told: &mut [u8]) -> Place {
+// The call of an opcode that was read.
+fn call(code: usize, tokens: &mut Tokens, told: &mut Told) {
     match code {
-        10 => children(text, from, told),
-        11 => leaves(text, from, told),
-        12 => seriated(text, from, told),
-        13 => step(text, from, told),
-        _ => matrix(text, from, code, told),
+        10 => children(tokens, told),
+        11 => leaves(tokens, told),
+        12 => seriated(tokens, told),
+        13 => step(tokens, told),
+        _ => matrix(code, tokens, told),
     }
-}
-
-// Every call of the text. Answers how many bytes were told.
-fn replay(text: &[u8], told: &mut [u8]) -> usize {
-    let mut at = 0;
-    let mut end = 0;
-    while at < text.len() {
-        let code = recorded::next(text, at);
-        // No opcode is 0: nothing but spaces was left.
-        if code.value == 0 {
-            return end;
-        }
-        let past = call(text, Place { at: code.at, end }, code.value, told);
-        end = past.end;
-        if past.at <= at {
-            return end;
-        }
-        at = past.at;
-    }
-    end
 }
 
 fn main(rt: HostRuntime) {
-    let mut text = recorded::space();
-    let input = channel::read_all(rt, &mut text);
-    let Input::Text(n) = input else {
-        return;
-    };
-    let mut told = recorded::space();
-    let end = replay(recorded::byte_part(&text, 0, n), &mut told);
-    channel::write(rt, recorded::byte_part(&told, 0, end));
+    recorded::answer(rt, |text, told| recorded::replay(text, told, call));
 }

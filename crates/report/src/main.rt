@@ -2,9 +2,7 @@
 // the line at fault. An input that cannot be read to its end has neither.
 #![tactic(auto)]
 
-use channel::Input;
 use cutting::Feed;
-use month::Progress;
 
 // More reads than any input takes.
 const MOST_READS: usize = 4_611_686_018_427_387_904;
@@ -12,48 +10,34 @@ const MOST_READS: usize = 4_611_686_018_427_387_904;
 // As many reads of what comes after a refusal.
 const MOST_PASSED: usize = 65536;
 
-// What the input came to, or that it could not be read to its end.
-#[derive(Clone, Copy)]
-enum Taken {
-    Whole(Feed),
-    Failed,
-}
-
-fn is_refused(feed: Feed) -> bool {
-    let progress = feed.progress;
-    match progress {
-        Progress::At(_) => false,
-        Progress::Refused(_, _) => true,
-    }
-}
-
 // What comes after a refusal is read and passed over, so that what writes it is not cut off; input without end is left after a while.
-fn pass_over(rt: HostRuntime, piece: &mut [u8], feed: Feed) -> Taken {
+fn pass_over(rt: HostRuntime, piece: &mut [u8], feed: Feed) -> Option<Feed> {
     for _ in 0..MOST_PASSED {
-        let input = channel::read_piece(rt, piece);
-        let Input::Text(n) = input else {
-            return Taken::Failed;
-        };
+        let n = channel::read_piece(rt, piece)?;
         if n == 0 {
-            return Taken::Whole(feed);
+            return Some(feed);
         }
     }
-    Taken::Whole(feed)
+    Some(feed)
 }
 
-// Each piece as it is read. Once a line is at fault nothing is taken any more: whatever comes, the first decides.
-fn take_input(rt: HostRuntime, table: &mut [usize], held: &mut [u8], piece: &mut [u8]) -> Taken {
+// What the input came to, or none where it could not be read to its end. Each piece is taken as it is read. Once a line is
+// at fault nothing is taken any more: whatever comes, the first decides.
+fn take_input(
+    rt: HostRuntime,
+    table: &mut [usize],
+    held: &mut [u8],
+    piece: &mut [u8],
+) -> Option<Feed> {
     let mut feed = cutting::begin_feed(table, held);
     for _ in 0..MOST_READS {
-        let input = channel::read_piece(rt, piece);
-        let Input::Text(n) = input else {
-            return Taken::Failed;
-        };
+        let n = channel::read_piece(rt, piece)?;
         if n == 0 {
-            return Taken::Whole(feed);
+            return Some(feed);
         }
         feed = cutting::take_bytes(table, held, feed, &piece[..n]);
-        if is_refused(feed) {
+        let progress = feed.progress;
+        if progress.is_err() {
             return pass_over(rt, piece, feed);
         }
     }
@@ -61,7 +45,7 @@ fn take_input(rt: HostRuntime, table: &mut [usize], held: &mut [u8], piece: &mut
         rt,
         b"standard input is longer than the program takes: nothing is printed\n",
     );
-    Taken::Failed
+    None
 }
 
 // The number of the line at fault, on standard error.
@@ -80,8 +64,7 @@ fn main(rt: HostRuntime) {
     let mut table = [0usize; 1792];
     let mut held = [0u8; 4358];
     let mut piece = [0u8; 4096];
-    let taken = take_input(rt, &mut table, &mut held, &mut piece);
-    let Taken::Whole(feed) = taken else {
+    let Some(feed) = take_input(rt, &mut table, &mut held, &mut piece) else {
         return;
     };
     let progress = cutting::end_feed(&mut held, feed);

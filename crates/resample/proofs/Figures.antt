@@ -8,13 +8,12 @@ use lib.Dec.{eqb}
 use lib.Ieee.{Float, binary64, size, span, climb, odd, units, round, add, sub, div, eq, of_fields, of_bits, to_bits}
 use Rattle.arithmetic.specs.Constants.{pz, unit, two}
 use Rattle.refusal.specs.Refusal.{number_of}
-use Rattle.refusal.specs.Table.{first}
-use Rattle.refusal.specs.declared.Outcome.{Outcome}
-use Rattle.refusal.specs.declared.Outcome.TheVariants.{Done, Refused}
+use Rattle.refusal.specs.Table.{first, Outcome}
 use Rattle.lent.specs.Grid.{tab, grid, any_to}
 use Rattle.lent.specs.Lent.{over_limit, other_length, sizes, laid}
 use Rattle.text.specs.Bytes.{bytes, same, lower, lowered, is_word}
 use Rattle.resample.specs.Resample.{is_weekly, is_monthly, step_of, keeps_all, kept_rows, kept_row, sampled_cell, sampling_table, sampling_outcome, sampled_prices, return_cell, zero_met, returns_table, returns_outcome, returns_of}
+use Rattle.std.specs.Prelude.{Ok, Err}
 
 abbrev all : List Bool → Bool
 all [] = true
@@ -22,8 +21,8 @@ all (b ∷ bs) = b && all bs
 
 -- the number of a refusal, and 0 where there is none
 abbrev number : Outcome → ℕ
-number Done = 0
-number (Refused r) = number_of r
+number (Ok _) = 0
+number (Err r) = number_of r
 
 -- these are the bits of the doubles
 abbrev have : List Float → List ℕ → Bool

@@ -8,21 +8,20 @@ use native.Mathlib.Nat.{le-div_iff_mul-le, div-le_self, mul-le-mul_right}
 use native.Mathlib.Omega.{arith}
 use borrow.Author.Tests.{le-leb, lt-leb, leb-false, ltb-false}
 use lib.Dec.{ltb, leb}
-use lib.ListN.{length, get_or, take}
+use lib.ListN.{length, get_or}
 use lib.Ieee.{Float, nan, binary64, sub, div, eq}
 use Rattle.arithmetic.specs.Constants.{pz, unit}
-use Rattle.refusal.specs.Table.{Line, first, and_then}
+use Rattle.refusal.specs.Table.{Line, first, and_then, Outcome}
 use Rattle.refusal.specs.declared.Refusal.{Refusal}
 use Rattle.refusal.specs.declared.Refusal.TheVariants.{NoData, ShortBuffer}
-use Rattle.refusal.specs.declared.Outcome.{Outcome}
-use Rattle.refusal.specs.declared.Outcome.TheVariants.{Done, Refused}
-use Rattle.refusal.proofs.Tables.{none, first_append, parts_done, then_done, then_refused, table_hit, table_pass, table_end}
-use Rattle.lent.specs.Grid.{cell, grid, zeros, over}
+use Rattle.refusal.proofs.Tables.{none, first_append, parts_done}
+use Rattle.lent.specs.Grid.{cell}
 use Rattle.lent.specs.Lent.{sizes, answer_of}
 use Rattle.lent.proofs.Laws.{either}
 use Rattle.lent.proofs.Sums.{no_or, any_none, any_more, any_hit}
-use Rattle.lent.proofs.Sizes.{sized_done, laid_done, laid_refused}
-use Rattle.resample.specs.Resample.{is_weekly, is_monthly, step_of, keeps_all, kept_rows, kept_row, sampled_cell, sampling_table, sampling_outcome, sampled_answer, sampled_prices, return_cell, zero_met, breaks_price_rules, returns_table, returns_outcome, returns_answer, returns_of}
+use Rattle.lent.proofs.Sizes.{sized_done}
+use Rattle.resample.specs.Resample.{is_weekly, is_monthly, step_of, keeps_all, kept_rows, kept_row, sampled_cell, sampling_table, sampling_outcome, sampled_answer, return_cell, zero_met, breaks_price_rules, returns_table, returns_outcome}
+use Rattle.std.specs.Prelude.{Ok}
 
 -- ---- the step of a name
 
@@ -110,7 +109,7 @@ module _ (len rows w s room : ℕ) where
     pub cells : len ≡ rows * w
     pub fits : kept_rows rows s * w ≤ room
 
-  pub sampling_done : (o : Outcome) → o ≡ first (sampling_table len rows w s room) → o ≡ Done → Sampled
+  pub sampling_done : (o : Outcome) → o ≡ first (sampling_table len rows w s room) → o ≡ Ok tt → Sampled
   unfolding sampling_table
   sampling_done o e h =
       let l : List Line = (ltb room (kept_rows rows s * w), ShortBuffer) ∷ [] in
@@ -119,19 +118,9 @@ module _ (len rows w s room : ℕ) where
       let a = none l b.1 in
       record { tall = z.tall; cells = z.cells; fits = ltb-false room (kept_rows rows s * w) a.0 }
 
-module _ (prices : List Float) (rows w s room : ℕ) where
-  pub sampled_answer_lem : (o : Outcome) (k : ℕ) → o ≡ first (sampling_table (length prices) rows w s room) → k ≡ kept_rows rows s → answer_of o k w ≡ sampled_answer prices rows w s room
-  unfolding sampled_answer sampling_outcome
-  sampled_answer_lem o k e h = rw (e, h)
-
-  -- what the buffer holds, cleared and then with the sample over its front
-  pub sampled_refused : (o : Outcome) (k : Refusal) (d : List Float) → o ≡ first (sampling_table (length prices) rows w s room) → o ≡ Refused k → d ≡ zeros room → d ≡ sampled_prices prices rows w s room
-  unfolding sampled_prices sampling_outcome
-  sampled_refused o k d e h z = z ∙ laid_refused pz _ k room _ (sym e ∙ h)
-
-  pub sampled_done : (o : Outcome) (d d' : List Float) → o ≡ first (sampling_table (length prices) rows w s room) → o ≡ Done → d ≡ zeros room → d' ≡ over (grid (kept_rows rows s) w (sampled_cell prices rows w s)) d → d' ≡ sampled_prices prices rows w s room
-  unfolding sampled_prices sampling_outcome
-  sampled_done o d d' e h z f = f ∙ ap (over _) z ∙ laid_done pz _ room _ (sym e ∙ h)
+pub sampled_answer_lem : (prices : List Float) (rows w s room : ℕ) (o : Outcome) (k : ℕ) → o ≡ first (sampling_table (length prices) rows w s room) → k ≡ kept_rows rows s → answer_of o k w ≡ sampled_answer prices rows w s room
+unfolding sampled_answer sampling_outcome
+sampled_answer_lem prices rows w s room o k e h = rw (e, h)
 
 -- ---- returns
 
@@ -161,10 +150,6 @@ pub return_stored : (prices : List Float) (w r c : ℕ) (v p q : Float) → v �
 unfolding return_cell
 return_stored prices w r c v p q e f g = e ∙ rw (f, g)
 
--- a buffer that is cleared from its first entry on
-pub all_cleared : (d d' : List Float) → d' ≡ take 0 d ++ zeros (length d - 0) → d' ≡ zeros (length d)
-all_cleared d d' e = let z : length d - 0 ≡ length d = omega arith in e ∙ ap zeros z
-
 -- what the judge says: every line but the zero price's
 abbrev pub judged : ℕ → ℕ → ℕ → ℕ → Outcome
 judged len rows w room = first (sizes len rows w ++ ((ltb room ((rows - 1) * w), ShortBuffer) ∷ (ltb rows 2, NoData) ∷ []))
@@ -175,7 +160,7 @@ module _ (len rows w room : ℕ) where
     pub two : 2 ≤ rows
     pub fits : (rows - 1) * w ≤ room
 
-  pub accepted : (o : Outcome) → o ≡ judged len rows w room → o ≡ Done → Accepted
+  pub accepted : (o : Outcome) → o ≡ judged len rows w room → o ≡ Ok tt → Accepted
   accepted o e h =
       let l : List Line = (ltb room ((rows - 1) * w), ShortBuffer) ∷ (ltb rows 2, NoData) ∷ [] in
       let b = parts_done (sizes len rows w) l (sym e ∙ h) in
@@ -190,39 +175,15 @@ joined true b c r s = refl
 joined false true c r s = refl
 joined false false c r s = refl
 
-module _ (prices : List Float) (rows w room : ℕ) where
-  returns_judged : returns_outcome prices rows w room ≡ and_then (judged (length prices) rows w room) (first ((zero_met prices ((rows - 1) * w), NoData) ∷ []))
-  unfolding returns_outcome returns_table breaks_price_rules
-  returns_judged =
-      let l : List Line = (ltb room ((rows - 1) * w), ShortBuffer) ∷ (ltb rows 2, NoData) ∷ [] in
-      let m : List Line = (zero_met prices ((rows - 1) * w), NoData) ∷ [] in
-      let z = sizes (length prices) rows w in
-      first_append z _
-      ∙ ap (and_then (first z)) (joined (ltb room ((rows - 1) * w)) (ltb rows 2) (zero_met prices ((rows - 1) * w)) ShortBuffer NoData)
-      ∙ sym (first_append z (l ++ m))
-      ∙ ap first (sym (append_assoc z l m))
-      ∙ first_append (z ++ l) m
-
-  pub returns_refused : (o : Outcome) (k : Refusal) → o ≡ judged (length prices) rows w room → o ≡ Refused k → returns_outcome prices rows w room ≡ Refused k
-  returns_refused o k e h = returns_judged ∙ then_refused _ _ k (sym e ∙ h)
-
-  -- met is what the scan of the first k rows said
-  module _ (o : Outcome) (k : ℕ) (met : Bool) (e : o ≡ judged (length prices) rows w room) (h : o ≡ Done) (i : k ≡ rows - 1) (m : met ≡ zero_met prices (k * w)) where
-    pub returns_zero : met ≡ true → returns_outcome prices rows w room ≡ Refused NoData
-    returns_zero z = returns_judged ∙ then_done _ _ (sym e ∙ h) ∙ table_hit _ NoData [] (rw (← i) (sym m ∙ z))
-
-    pub returns_done : met ≡ false → returns_outcome prices rows w room ≡ Done
-    returns_done z = returns_judged ∙ then_done _ _ (sym e ∙ h) ∙ table_pass _ NoData [] (rw (← i) (sym m ∙ z)) ∙ table_end
-
-  pub returned_answer : (o : Outcome) (k : ℕ) → o ≡ returns_outcome prices rows w room → k ≡ rows - 1 → answer_of o k w ≡ returns_answer prices rows w room
-  unfolding returns_answer
-  returned_answer o k e h = rw (e, h)
-
-  -- what the buffer holds, cleared and then with the returns over its front
-  pub returned_refused : (d : List Float) (k : Refusal) → returns_outcome prices rows w room ≡ Refused k → d ≡ zeros room → d ≡ returns_of prices rows w room
-  unfolding returns_of
-  returned_refused d k e z = z ∙ laid_refused pz _ k room _ e
-
-  pub returned_done : (d d' : List Float) (k : ℕ) → returns_outcome prices rows w room ≡ Done → k ≡ rows - 1 → d ≡ zeros room → d' ≡ over (grid k w (return_cell prices w)) d → d' ≡ returns_of prices rows w room
-  unfolding returns_of
-  returned_done d d' k e i z h = h ∙ rw (i, z) (laid_done pz _ room _ e)
+-- the judge's table, and then the zero price's line
+pub returns_judged : (prices : List Float) (rows w room : ℕ) → returns_outcome prices rows w room ≡ and_then (judged (length prices) rows w room) (first ((zero_met prices ((rows - 1) * w), NoData) ∷ []))
+unfolding returns_outcome returns_table breaks_price_rules
+returns_judged prices rows w room =
+    let l : List Line = (ltb room ((rows - 1) * w), ShortBuffer) ∷ (ltb rows 2, NoData) ∷ [] in
+    let m : List Line = (zero_met prices ((rows - 1) * w), NoData) ∷ [] in
+    let z = sizes (length prices) rows w in
+    first_append z _
+    ∙ ap (and_then (first z)) (joined (ltb room ((rows - 1) * w)) (ltb rows 2) (zero_met prices ((rows - 1) * w)) ShortBuffer NoData)
+    ∙ sym (first_append z (l ++ m))
+    ∙ ap first (sym (append_assoc z l m))
+    ∙ first_append (z ++ l) m

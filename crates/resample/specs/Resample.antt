@@ -3,12 +3,10 @@ use Rattle.std.specs.Prelude.{ℕ, ◌+◌, ◌*◌, ◌-◌, ◌/◌, Bool, ◌
 use Rattle.std.specs.Float.{nan, binary64}
 use Rattle.std.specs.Float.Ieee.{sub, div, eq}
 use Rattle.arithmetic.specs.Constants.{pz, unit}
-use Rattle.refusal.specs.Table.{Line, first}
+use Rattle.refusal.specs.Table.{Line, first, Outcome}
 use Rattle.refusal.specs.declared.Refusal.TheVariants.{NoData, ShortBuffer}
-use Rattle.refusal.specs.declared.Outcome.{Outcome}
 use Rattle.lent.specs.Grid.{cell, grid, any_to}
-use Rattle.lent.specs.Lent.{sizes, laid, answer_of}
-use Rattle.lent.specs.declared.Answer.{Answer}
+use Rattle.lent.specs.Lent.{sizes, laid, answer_of, Answer}
 use Rattle.text.specs.Bytes.{bytes, is_word}
 
 -- "Sampling: `w`, `week`, `weekly` step 5; `m`, `month`, `monthly` step 21 (any case); else 1."

@@ -9,8 +9,8 @@ ghost use Rattle.lent.specs.Lent.{sizes};
 ghost use Rattle.text.specs.Bytes.{is_word};
 ghost use Rattle.resample.specs.Resample.{step_of, keeps_all, kept_rows, kept_row, sampled_cell, sampling_table, sampled_answer, sampled_prices, return_cell, zero_met, returns_answer, returns_of};
 
-use lent::Answer;
-use refusal::{Outcome, Refusal};
+use lent::Size;
+use refusal::Refusal;
 
 // Cell (r, c) of a matrix of w columns.
 fn at(xs: &[f64], w: usize, r: usize, c: usize) -> f64
@@ -32,13 +32,7 @@ fn put(xs: &mut [f64], w: usize, r: usize, c: usize, v: f64)
 fn is_one_of(name: &[u8], letter: &[u8], period: &[u8], often: &[u8]) -> bool
     ensures { result ≡ (is_word name.now letter.now || (is_word name.now period.now || is_word name.now often.now)) }
 {
-    if text::is_word(name, letter) {
-        return true;
-    }
-    if text::is_word(name, period) {
-        return true;
-    }
-    text::is_word(name, often)
+    text::is_word(name, letter) || text::is_word(name, period) || text::is_word(name, often)
 }
 
 // Rows per period of a sampling name: 5 for weekly, 21 for monthly, otherwise 1.
@@ -93,11 +87,9 @@ fn sample_row(prices: &[f64], rows: usize, columns: usize, step: usize, r: usize
     ensures { out.new ≡ over (grid (r + 1) columns (sampled_cell prices.now rows columns step)) out.old }
 {
     let from = kept_row(rows, step, r);
-    let mut c = 0;
-    while c < columns {
+    for c in 0..columns {
         let price = at(prices, columns, from, c);
         put(out, columns, r, c, arithmetic::settled(price));
-        c += 1;
     }
 }
 
@@ -109,51 +101,53 @@ fn sample(prices: &[f64], rows: usize, columns: usize, step: usize, out: &mut [f
     ensures { out.new ≡ over (grid (kept_rows rows step) columns (sampled_cell prices.now rows columns step)) out.old }
 {
     let kept = kept_rows(rows, step);
-    let mut r = 0;
-    while r < kept {
+    for r in 0..kept {
         sample_row(prices, rows, columns, step, r, out);
-        r += 1;
     }
 }
 
 // The refusal that the sizes give, if there is one. Its product is taken once they are small.
-fn judge_sampling(len: usize, rows: usize, columns: usize, step: usize, room: usize) -> Outcome
+#[tactic(auto, using(refusal::proofs::Tables::first_append), unfolding(crate::specs::Resample::sampling_table, refusal::specs::Table::first, refusal::specs::Table::and_then, refusal::specs::Table::or_else))]
+fn judge_sampling(
+    len: usize,
+    rows: usize,
+    columns: usize,
+    step: usize,
+    room: usize,
+) -> Result<(), Refusal>
     ensures { result ≡ first (sampling_table len rows columns step room) }
 {
-    let said = lent::sized(len, rows, columns);
-    let Outcome::Done = said else {
-        return said;
-    };
-    let cells = kept_rows(rows, step) * columns;
-    refusal::refuse(room < cells, Refusal::ShortBuffer, Outcome::Done)
+    lent::sized(len, rows, columns)?;
+    refusal::refuse(room < kept_rows(rows, step) * columns, Refusal::ShortBuffer)
 }
 
 // The last row of every block of `step` rows. Prices of fewer rows than one block are answered unchanged.
+#[tactic(auto, using(crate::proofs::Laws::sampling_done, lent::proofs::Laws::over_replicate), unfolding(crate::specs::Resample::sampling_outcome, crate::specs::Resample::sampled_answer, crate::specs::Resample::sampled_prices, lent::specs::Lent::answer_of, lent::specs::Lent::laid))]
 pub fn resample_prices(
     prices: &[f64],
     rows: usize,
     columns: usize,
     step: usize,
     out: &mut [f64],
-) -> Answer
+) -> Result<Size, Refusal>
     ensures value { result ≡ sampled_answer prices.now rows columns step (length out.old) }
     ensures out_after { out.new ≡ sampled_prices prices.now rows columns step (length out.old) }
 {
     let said = judge_sampling(prices.len(), rows, columns, step, out.len());
-    let kept = kept_rows(rows, step);
     lent::clear(out);
-    let Outcome::Done = said else {
-        return lent::answered(said, kept, columns);
-    };
+    said?;
     sample(prices, rows, columns, step, out);
-    lent::answered(said, kept, columns)
+    Ok(Size {
+        rows: kept_rows(rows, step),
+        columns,
+    })
 }
 
 // How many rows of returns there are: one fewer than of prices.
 fn return_rows(rows: usize) -> usize
     ensures { result ≡ rows - 1 }
 {
-    if rows == 0 { 0 } else { rows - 1 }
+    rows.saturating_sub(1)
 }
 
 // The returns, up to the first zero price met as a denominator: whether there is one.
@@ -163,54 +157,52 @@ fn scan(prices: &[f64], last: usize, columns: usize, out: &mut [f64]) -> bool
     ensures value { result ≡ zero_met prices.now (last * columns) }
     ensures out_after { result ≡ false → out.new ≡ over (grid last columns (return_cell prices.now columns)) out.old }
 {
-    let mut met = false;
-    let mut r = 0;
-    'scan: while r < last {
-        let mut c = 0;
-        while c < columns {
+    for r in 0..last {
+        for c in 0..columns {
             let previous = at(prices, columns, r, c);
             if previous == 0.0 {
-                met = true;
-                break 'scan;
+                return true;
             }
             let price = at(prices, columns, r + 1, c);
             let change = price / previous - 1.0;
             put(out, columns, r, c, arithmetic::settled(change));
-            c += 1;
         }
-        r += 1;
     }
-    met
+    false
 }
 
 // The refusal that the sizes give, if there is one: every line of the table but the zero price's.
-fn judge_returns(len: usize, rows: usize, columns: usize, room: usize) -> Outcome
+#[tactic(auto, using(refusal::proofs::Tables::first_append), unfolding(refusal::specs::Table::first, refusal::specs::Table::and_then, refusal::specs::Table::or_else))]
+fn judge_returns(len: usize, rows: usize, columns: usize, room: usize) -> Result<(), Refusal>
     ensures { result ≡ first (sizes len rows columns ++ ((ltb room ((rows - 1) * columns), ShortBuffer) ∷ (ltb rows 2, NoData) ∷ [])) }
 {
-    let said = lent::sized(len, rows, columns);
-    let Outcome::Done = said else {
-        return said;
-    };
-    let cells = return_rows(rows) * columns;
-    let few = refusal::refuse(rows < 2, Refusal::NoData, Outcome::Done);
-    refusal::refuse(room < cells, Refusal::ShortBuffer, few)
+    lent::sized(len, rows, columns)?;
+    refusal::refuse(room < return_rows(rows) * columns, Refusal::ShortBuffer)?;
+    refusal::refuse(rows < 2, Refusal::NoData)
 }
 
 // Each price over the one before it, less 1.
-pub fn returns_from_prices(prices: &[f64], rows: usize, columns: usize, out: &mut [f64]) -> Answer
+#[tactic(auto, using(crate::proofs::Laws::accepted, crate::proofs::Laws::returns_judged, lent::proofs::Laws::over_replicate), unfolding(crate::specs::Resample::returns_answer, crate::specs::Resample::returns_of, refusal::specs::Table::first, refusal::specs::Table::and_then, lent::specs::Lent::answer_of, lent::specs::Lent::laid))]
+pub fn returns_from_prices(
+    prices: &[f64],
+    rows: usize,
+    columns: usize,
+    out: &mut [f64],
+) -> Result<Size, Refusal>
     ensures value { result ≡ returns_answer prices.now rows columns (length out.old) }
     ensures out_after { out.new ≡ returns_of prices.now rows columns (length out.old) }
 {
     let said = judge_returns(prices.len(), rows, columns, out.len());
-    let last = return_rows(rows);
     lent::clear(out);
-    let Outcome::Done = said else {
-        return lent::answered(said, last, columns);
-    };
+    said?;
+    let last = return_rows(rows);
     // What was written before the zero goes too.
     if scan(prices, last, columns, out) {
-        lent::clear_from(out, 0);
-        return lent::answered(Outcome::Refused(Refusal::NoData), last, columns);
+        lent::clear(out);
+        return Err(Refusal::NoData);
     }
-    lent::answered(said, last, columns)
+    Ok(Size {
+        rows: last,
+        columns,
+    })
 }

@@ -2,47 +2,49 @@
 // that hold junk, and writes the answers to standard output; both are lines of hex tokens, as oracle/README.md says. oracle/rust records them from the published Rust.
 #![tactic(auto)]
 
-use channel::Input;
-use clusters::Risk;
-use lent::Answer;
-use recorded::{Expected, Place};
+use lent::Size;
+use recorded::{Expected, Tokens, Told};
+use refusal::Refusal;
 use sharing::Metric;
 
-// A matrix and a list of ids that were read, and the place after them.
-#[derive(Clone, Copy)]
-struct MatrixAndList {
-    rows: usize,
-    columns: usize,
-    len: usize,
-    count: usize,
-    at: usize,
-}
+const METRICS: [Metric; 6] = [
+    Metric::MinimumVariance,
+    Metric::MinimumStandardDeviation,
+    Metric::SharpeRatio,
+    Metric::EqualWeighting,
+    Metric::ExpectedShortfall,
+    Metric::ConditionalDrawdownRisk,
+];
 
-// A matrix alone that was read, and the place after it.
+// A matrix that was read, but for its cells.
 #[derive(Clone, Copy)]
 struct Table {
     rows: usize,
     columns: usize,
     len: usize,
-    at: usize,
 }
 
-// A confidence, how many doubles are lent to work by it in, and the place after them.
+// A matrix and a list of ids that were read.
+#[derive(Clone, Copy)]
+struct MatrixAndList {
+    matrix: Table,
+    count: usize,
+}
+
+// A confidence, and how many doubles are lent to work by it in.
 #[derive(Clone, Copy)]
 struct Level {
     confidence: f64,
     room: usize,
-    at: usize,
 }
 
-// What a weight is shared by, and the place of the expected returns.
+// What a weight is shared by.
 #[derive(Clone, Copy)]
 struct Asked {
     room: usize,
     metric: Metric,
     clusters: usize,
     assets: usize,
-    at: usize,
 }
 
 type Cells = [f64; 13312];
@@ -51,208 +53,142 @@ type Ids = [usize; 512];
 
 // ---- reading
 
-fn matrix_and_list(text: &[u8], at: usize, cells: &mut Cells, list: &mut Ids) -> MatrixAndList {
-    let rows = recorded::next(text, at);
-    let columns = recorded::next(text, rows.at);
-    let len = recorded::doubles_to(text, columns.at, cells, 0);
-    let count = recorded::next(text, len.at);
-    MatrixAndList {
-        rows: rows.value as usize,
-        columns: columns.value as usize,
-        len: len.value as usize,
-        count: count.value as usize,
-        at: recorded::numbers(text, count.at, count.value as usize, list),
-    }
-}
-
-fn table_to(text: &[u8], at: usize, cells: &mut Cells, start: usize) -> Table {
-    let rows = recorded::next(text, at);
-    let columns = recorded::next(text, rows.at);
-    let len = recorded::doubles_to(text, columns.at, cells, start);
+fn read_table(tokens: &mut Tokens, cells: &mut Cells, start: usize) -> Table {
     Table {
-        rows: rows.value as usize,
-        columns: columns.value as usize,
-        len: len.value as usize,
-        at: len.at,
+        rows: tokens.next(),
+        columns: tokens.next(),
+        len: tokens.fill_from(cells, start),
     }
 }
 
-fn level_at(text: &[u8], at: usize) -> Level {
-    let confidence = recorded::next(text, at);
-    let room = recorded::next(text, confidence.at);
+fn matrix_and_list(tokens: &mut Tokens, cells: &mut Cells, list: &mut Ids) -> MatrixAndList {
+    MatrixAndList {
+        matrix: read_table(tokens, cells, 0),
+        count: tokens.fill_from(list, 0),
+    }
+}
+
+fn read_level(tokens: &mut Tokens) -> Level {
     Level {
-        confidence: arithmetic::from_bits(confidence.value),
-        room: room.value as usize,
-        at: room.at,
+        confidence: tokens.next(),
+        room: tokens.next(),
     }
 }
 
-fn metric_of(code: u64) -> Metric {
-    match code {
-        0 => Metric::MinimumVariance,
-        1 => Metric::MinimumStandardDeviation,
-        2 => Metric::SharpeRatio,
-        3 => Metric::EqualWeighting,
-        4 => Metric::ExpectedShortfall,
-        _ => Metric::ConditionalDrawdownRisk,
-    }
-}
-
-fn asked_sharing(text: &[u8], at: usize) -> Asked {
-    let room = recorded::next(text, at);
-    let metric = recorded::next(text, room.at);
-    let clusters = recorded::next(text, metric.at);
-    let assets = recorded::next(text, clusters.at);
+fn asked_sharing(tokens: &mut Tokens) -> Asked {
     Asked {
-        room: room.value as usize,
-        metric: metric_of(metric.value),
-        clusters: clusters.value as usize,
-        assets: assets.value as usize,
-        at: assets.at,
+        room: tokens.next(),
+        metric: recorded::choice(tokens.next(), &METRICS, Metric::ConditionalDrawdownRisk),
+        clusters: tokens.next(),
+        assets: tokens.next(),
     }
 }
 
 // ---- answers
 
 // A lone number is one row of one cell. What it was worked out in may be left unclean.
-fn tell_risk(risk: Risk, left: usize, told: &mut [u8], end: usize) -> usize {
+fn tell_risk(risk: Result<f64, Refusal>, left: usize, told: &mut Told) {
     match risk {
-        Risk::Of(value) => {
-            let sized = recorded::put_sizes(told, end, 0, 1, 1);
-            let listed = recorded::put_hex(told, sized, arithmetic::to_bits(value), 16, 32);
-            recorded::put_last(told, listed, left)
+        Ok(value) => {
+            told.put_sizes(0, 1, 1);
+            told.put(value, b' ');
         }
-        Risk::Refused(r) => {
-            let sized = recorded::put_sizes(told, end, refusal::number(r), 0, 0);
-            recorded::put_last(told, sized, left)
-        }
+        Err(r) => told.put_sizes(r.number(), 0, 0),
     }
+    told.put_last(left);
 }
 
-fn tell_shares(answer: Answer, out: &[f64], left: usize, told: &mut [u8], end: usize) -> usize {
+fn tell_shares(answer: Result<Size, Refusal>, out: &[f64], left: usize, told: &mut Told) {
     let n = recorded::columns_of(answer);
-    let begun = recorded::put_outcome(told, end, lent::told(answer));
-    let listed = recorded::put_front(told, begun, out, n);
-    recorded::put_last(
-        told,
-        listed,
-        recorded::plus(recorded::unclean_past(out, n), left),
-    )
+    told.put_outcome(lent::told(answer));
+    told.put_front(out, n);
+    told.put_last(recorded::plus(recorded::unclean(recorded::past(out, n)), left));
 }
 
 // ---- calls
 
 // The call of opcode 1 or 4: a matrix and a list of assets to weights.
-fn run(code: u64, m: MatrixAndList, cells: &[f64], list: &[usize], out: &mut [f64]) -> Answer {
-    let matrix = recorded::part(cells, 0, m.len);
+fn run(
+    code: usize,
+    m: MatrixAndList,
+    cells: &[f64],
+    list: &[usize],
+    out: &mut [f64],
+) -> Result<Size, Refusal> {
+    let t = m.matrix;
+    let matrix = recorded::front(cells, t.len);
     let assets = recorded::front(list, m.count);
     match code {
-        1 => clusters::inverse_variance_weights(matrix, m.rows, m.columns, assets, out),
-        _ => bisection::recursive_bisection_min_var(matrix, m.rows, m.columns, assets, out),
+        1 => clusters::inverse_variance_weights(matrix, t.rows, t.columns, assets, out),
+        _ => bisection::recursive_bisection_min_var(matrix, t.rows, t.columns, assets, out),
     }
 }
 
-fn weights(
-    text: &[u8],
-    from: Place,
-    code: u64,
-    cells: &mut Cells,
-    list: &mut Ids,
-    told: &mut [u8],
-) -> Place {
-    let space = recorded::next(text, from.at);
-    let m = matrix_and_list(text, space.at, cells, list);
+fn weights(code: usize, tokens: &mut Tokens, cells: &mut Cells, list: &mut Ids, told: &mut Told) {
+    let room = tokens.next();
+    let m = matrix_and_list(tokens, cells, list);
     let mut out = [1.5; 4352];
-    let room = space.value as usize;
-    let answer = run(code, m, cells, list, recorded::lent_cells(&mut out, room));
-    Place {
-        at: m.at,
-        end: recorded::tell(answer, recorded::part(&out, 0, room), told, from.end),
-    }
+    let answer = run(code, m, cells, list, recorded::front_mut(&mut out, room));
+    told.put_answer(answer, recorded::front(&out, room));
 }
 
-fn variance_of(m: MatrixAndList, cells: &[f64], list: &[usize]) -> Risk {
-    let matrix = recorded::part(cells, 0, m.len);
+fn variance(tokens: &mut Tokens, cells: &mut Cells, list: &mut Ids, told: &mut Told) {
+    let m = matrix_and_list(tokens, cells, list);
+    let t = m.matrix;
+    let matrix = recorded::front(cells, t.len);
     let assets = recorded::front(list, m.count);
-    clusters::cluster_variance(matrix, m.rows, m.columns, assets)
+    let risk = clusters::cluster_variance(matrix, t.rows, t.columns, assets);
+    tell_risk(risk, 0, told);
 }
 
-fn variance(text: &[u8], from: Place, cells: &mut Cells, list: &mut Ids, told: &mut [u8]) -> Place {
-    let m = matrix_and_list(text, from.at, cells, list);
-    let risk = variance_of(m, cells, list);
-    Place {
-        at: m.at,
-        end: tell_risk(risk, 0, told, from.end),
-    }
-}
-
-fn sharpe_of(m: MatrixAndList, width: usize, cells: &[f64], list: &[usize]) -> Risk {
+fn sharpe(tokens: &mut Tokens, cells: &mut Cells, list: &mut Ids, told: &mut Told) {
+    let width = tokens.fill_from(cells, recorded::EXPECTED);
+    let m = matrix_and_list(tokens, cells, list);
+    let t = m.matrix;
+    let cells = &cells[..];
     let expected = recorded::part(cells, recorded::EXPECTED, width);
-    let matrix = recorded::part(cells, 0, m.len);
+    let matrix = recorded::front(cells, t.len);
     let assets = recorded::front(list, m.count);
-    clusters::cluster_sharpe(expected, matrix, m.rows, m.columns, assets)
-}
-
-fn sharpe(text: &[u8], from: Place, cells: &mut Cells, list: &mut Ids, told: &mut [u8]) -> Place {
-    let width = recorded::doubles_to(text, from.at, cells, recorded::EXPECTED);
-    let m = matrix_and_list(text, width.at, cells, list);
-    let risk = sharpe_of(m, width.value as usize, cells, list);
-    Place {
-        at: m.at,
-        end: tell_risk(risk, 0, told, from.end),
-    }
+    let risk = clusters::cluster_sharpe(expected, matrix, t.rows, t.columns, assets);
+    tell_risk(risk, 0, told);
 }
 
 // The call of opcode 8 or 9: returns, a covariance and a list of assets to a risk.
 fn risk_of(
-    code: u64,
+    code: usize,
     r: Table,
     m: MatrixAndList,
     confidence: f64,
     cells: &[f64],
     list: &[usize],
     series: &mut [f64],
-) -> Risk {
+) -> Result<f64, Refusal> {
+    let t = m.matrix;
     let returns = recorded::part(cells, recorded::RETURNS, r.len);
-    let matrix = recorded::part(cells, 0, m.len);
+    let matrix = recorded::front(cells, t.len);
     let assets = recorded::front(list, m.count);
     match code {
         8 => tails::cluster_expected_shortfall(
-            returns, r.rows, r.columns, matrix, m.rows, m.columns, assets, confidence, series,
+            returns, r.rows, r.columns, matrix, t.rows, t.columns, assets, confidence, series,
         ),
         _ => tails::cluster_conditional_drawdown(
-            returns, r.rows, r.columns, matrix, m.rows, m.columns, assets, confidence, series,
+            returns, r.rows, r.columns, matrix, t.rows, t.columns, assets, confidence, series,
         ),
     }
 }
 
-fn tail_risk(
-    text: &[u8],
-    from: Place,
-    code: u64,
-    cells: &mut Cells,
-    list: &mut Ids,
-    told: &mut [u8],
-) -> Place {
-    let r = table_to(text, from.at, cells, recorded::RETURNS);
-    let m = matrix_and_list(text, r.at, cells, list);
-    let l = level_at(text, m.at);
+fn tail_risk(code: usize, tokens: &mut Tokens, cells: &mut Cells, list: &mut Ids, told: &mut Told) {
+    let r = read_table(tokens, cells, recorded::RETURNS);
+    let m = matrix_and_list(tokens, cells, list);
+    let l = read_level(tokens);
     let mut series = [1.5; 4352];
-    let room = l.room;
-    let risk = risk_of(
-        code,
-        r,
-        m,
-        l.confidence,
-        cells,
-        list,
-        recorded::lent_cells(&mut series, room),
+    let lent = recorded::front_mut(&mut series, l.room);
+    let risk = risk_of(code, r, m, l.confidence, cells, list, lent);
+    tell_risk(
+        risk,
+        recorded::unclean(recorded::front(&series, l.room)),
+        told,
     );
-    let left = recorded::unclean(recorded::part(&series, 0, room));
-    Place {
-        at: l.at,
-        end: tell_risk(risk, left, told, from.end),
-    }
 }
 
 fn share(
@@ -265,8 +201,9 @@ fn share(
     list: &[usize],
     out: &mut [f64],
     scratch: &mut [f64],
-) -> Answer {
+) -> Result<Size, Refusal> {
     let metric = h.metric;
+    let t = m.matrix;
     sharing::allocate_down_tree(
         metric,
         recorded::part(cells, recorded::EXPECTED, e.len),
@@ -275,9 +212,9 @@ fn share(
         r.rows,
         r.columns,
         confidence,
-        recorded::part(cells, 0, m.len),
-        m.rows,
-        m.columns,
+        recorded::front(cells, t.len),
+        t.rows,
+        t.columns,
         recorded::front(list, m.count),
         h.assets,
         h.clusters,
@@ -286,12 +223,12 @@ fn share(
     )
 }
 
-fn shares(text: &[u8], from: Place, cells: &mut Cells, list: &mut Ids, told: &mut [u8]) -> Place {
-    let h = asked_sharing(text, from.at);
-    let e = recorded::expected_to(text, h.at, cells);
-    let r = table_to(text, e.at, cells, recorded::RETURNS);
-    let l = level_at(text, r.at);
-    let m = matrix_and_list(text, l.at, cells, list);
+fn shares(tokens: &mut Tokens, cells: &mut Cells, list: &mut Ids, told: &mut Told) {
+    let h = asked_sharing(tokens);
+    let e = tokens.expected(cells);
+    let r = read_table(tokens, cells, recorded::RETURNS);
+    let l = read_level(tokens);
+    let m = matrix_and_list(tokens, cells, list);
     let mut out = [1.5; 4352];
     let mut scratch = [1.5; 8300];
     let answer = share(
@@ -302,64 +239,28 @@ fn shares(text: &[u8], from: Place, cells: &mut Cells, list: &mut Ids, told: &mu
         m,
         cells,
         list,
-        recorded::lent_cells(&mut out, h.room),
-        recorded::lent_cells(&mut scratch, l.room),
+        recorded::front_mut(&mut out, h.room),
+        recorded::front_mut(&mut scratch, l.room),
     );
-    let left = recorded::unclean(recorded::part(&scratch, 0, l.room));
-    Place {
-        at: m.at,
-        end: tell_shares(
-            answer,
-            recorded::part(&out, 0, h.room),
-            left,
-            told,
-            from.end,
-        ),
-    }
+    let left = recorded::unclean(recorded::front(&scratch, l.room));
+    tell_shares(answer, recorded::front(&out, h.room), left, told);
 }
 
 // ---- every call
 
-// The call that begins at a place, its opcode read, in buffers of its own.
-fn call(text: &[u8], from: Place, code: u64, told: &mut [u8]) -> Place {
+// The call of an opcode that was read, in buffers of its own.
+fn call(code: usize, tokens: &mut Tokens, told: &mut Told) {
     let mut cells = [1.5; 13312];
     let mut list = [7usize; 512];
     match code {
-        2 => variance(text, from, &mut cells, &mut list, told),
-        3 => sharpe(text, from, &mut cells, &mut list, told),
-        7 => shares(text, from, &mut cells, &mut list, told),
-        8 | 9 => tail_risk(text, from, code, &mut cells, &mut list, told),
-        _ => weights(text, from, code, &mut cells, &mut list, told),
+        2 => variance(tokens, &mut cells, &mut list, told),
+        3 => sharpe(tokens, &mut cells, &mut list, told),
+        7 => shares(tokens, &mut cells, &mut list, told),
+        8 | 9 => tail_risk(code, tokens, &mut cells, &mut list, told),
+        _ => weights(code, tokens, &mut cells, &mut list, told),
     }
-}
-
-// Every call of the text. Answers how many bytes were told.
-fn replay(text: &[u8], told: &mut [u8]) -> usize {
-    let mut at = 0;
-    let mut end = 0;
-    while at < text.len() {
-        let code = recorded::next(text, at);
-        // No opcode is 0: nothing but spaces was left.
-        if code.value == 0 {
-            return end;
-        }
-        let past = call(text, Place { at: code.at, end }, code.value, told);
-        end = past.end;
-        if past.at <= at {
-            return end;
-        }
-        at = past.at;
-    }
-    end
 }
 
 fn main(rt: HostRuntime) {
-    let mut text = recorded::space();
-    let input = channel::read_all(rt, &mut text);
-    let Input::Text(n) = input else {
-        return;
-    };
-    let mut told = recorded::space();
-    let end = replay(recorded::byte_part(&text, 0, n), &mut told);
-    channel::write(rt, recorded::byte_part(&told, 0, end));
+    recorded::answer(rt, |text, told| recorded::replay(text, told, call));
 }

@@ -3,8 +3,7 @@ use Rattle.std.specs.Prelude.{ℕ, ◌-◌, ◌*◌, ◌≡◌, not, ◌&&◌, L
 use Rattle.refusal.specs.Table.{Line}
 use Rattle.refusal.specs.declared.Refusal.TheVariants.{NoData, DimensionMismatch, ShortBuffer}
 use Rattle.lent.specs.Grid.{zeros, noughts}
-use Rattle.lent.specs.Lent.{least_scratch, sizes}
-use Rattle.lent.specs.declared.Shape.{Shape}
+use Rattle.lent.specs.Lent.{least_scratch, sizes, Shape}
 use Rattle.inputs.specs.Inputs.{absent, other_columns, other_size, matrix_lines}
 
 -- how many entries each buffer has that both allocators are lent

@@ -5,8 +5,8 @@ ghost use Rattle.std.specs.Prelude.{◌≡◌, length};
 ghost use Rattle.refusal.specs.Table.{first};
 ghost use Rattle.rooms.specs.Rooms.{room_lines, Cleared, parity_room_lines, ParityCleared, square_lines, parity_judge_table, shapes_judged, hrp_judge_table};
 
-use lent::Shape;
-use refusal::{Outcome, Refusal};
+use lent::Size;
+use refusal::Refusal;
 
 // Every entry of every lent buffer is zero.
 pub fn clear_all(rows: &mut [usize], order: &mut [usize], weights: &mut [f64], scratch: &mut [f64])
@@ -19,8 +19,8 @@ pub fn clear_all(rows: &mut [usize], order: &mut [usize], weights: &mut [f64], s
         })
         rows.new order.new weights.new scratch.new }
 {
-    lent::clear_numbers(rows);
-    lent::clear_numbers(order);
+    lent::clear(rows);
+    lent::clear(order);
     lent::clear(weights);
     lent::clear(scratch); // nothing of an earlier account, and nothing that was worked out in it
 }
@@ -51,20 +51,24 @@ pub fn clear_with_matrices(
 }
 
 // What the sizes of the lent buffers refuse.
-pub fn judge_rooms(n: usize, rows: usize, order: usize, weights: usize, scratch: usize) -> Outcome
+#[tactic(auto, unfolding(crate::specs::Rooms::room_lines, refusal::specs::Table::first, refusal::specs::Table::or_else))]
+pub fn judge_rooms(
+    n: usize,
+    rows: usize,
+    order: usize,
+    weights: usize,
+    scratch: usize,
+) -> Result<(), Refusal>
     ensures { result ≡ first (room_lines n (record { rows = rows; order = order; weights = weights; scratch = scratch })) }
 {
-    let o = refusal::refuse(
-        scratch < lent::LEAST_SCRATCH,
-        Refusal::ShortBuffer,
-        Outcome::Done,
-    );
-    let o = refusal::refuse(weights < n, Refusal::ShortBuffer, o);
-    let o = refusal::refuse(order < n, Refusal::ShortBuffer, o);
-    refusal::refuse(lent::lacks_rows(rows, n), Refusal::ShortBuffer, o)
+    refusal::refuse(lent::lacks_rows(rows, n), Refusal::ShortBuffer)?;
+    refusal::refuse(order < n, Refusal::ShortBuffer)?;
+    refusal::refuse(weights < n, Refusal::ShortBuffer)?;
+    refusal::refuse(scratch < lent::LEAST_SCRATCH, Refusal::ShortBuffer)
 }
 
 // The same of HRP's, with its two matrices.
+#[tactic(auto, using(refusal::proofs::Tables::first_append), unfolding(crate::specs::Rooms::parity_room_lines, refusal::specs::Table::first, refusal::specs::Table::and_then, refusal::specs::Table::or_else))]
 pub fn judge_with_matrices(
     n: usize,
     rows: usize,
@@ -73,33 +77,26 @@ pub fn judge_with_matrices(
     correlations: usize,
     distances: usize,
     scratch: usize,
-) -> Outcome
+) -> Result<(), Refusal>
     ensures { result ≡ first (parity_room_lines n
         (record { rows = rows; order = order; weights = weights; correlations = correlations; distances = distances; scratch = scratch })) }
 {
-    let shared = judge_rooms(n, rows, order, weights, scratch);
-    let o = refusal::refuse(
-        lent::lacks_cells(distances, n),
-        Refusal::ShortBuffer,
-        Outcome::Done,
-    );
-    let o = refusal::refuse(lent::lacks_cells(correlations, n), Refusal::ShortBuffer, o);
-    refusal::and_then(shared, o)
+    judge_rooms(n, rows, order, weights, scratch)?;
+    refusal::refuse(lent::lacks_cells(correlations, n), Refusal::ShortBuffer)?;
+    refusal::refuse(lent::lacks_cells(distances, n), Refusal::ShortBuffer)
 }
 
 // No assets, then another size than theirs.
-pub fn judge_square(rows_in: usize, columns: usize) -> Outcome
+#[tactic(auto, unfolding(crate::specs::Rooms::square_lines, refusal::specs::Table::first, refusal::specs::Table::or_else))]
+pub fn judge_square(rows_in: usize, columns: usize) -> Result<(), Refusal>
     ensures { result ≡ first (square_lines rows_in columns) }
 {
-    let o = refusal::refuse(
-        rows_in != columns,
-        Refusal::DimensionMismatch,
-        Outcome::Done,
-    );
-    refusal::refuse(columns == 0, Refusal::NoData, o)
+    refusal::refuse(columns == 0, Refusal::NoData)?;
+    refusal::refuse(rows_in != columns, Refusal::DimensionMismatch)
 }
 
 // What the sizes of all the slices refuse of a call on a covariance.
+#[tactic(auto, using(crate::proofs::Judged::covariance_judged), unfolding(refusal::specs::Table::and_then))]
 pub fn judge_covariance(
     len: usize,
     rows_in: usize,
@@ -110,12 +107,12 @@ pub fn judge_covariance(
     correlations: usize,
     distances: usize,
     scratch: usize,
-) -> Outcome
+) -> Result<(), Refusal>
     ensures { result ≡ first (parity_judge_table len rows_in columns
         (record { rows = rows; order = order; weights = weights; correlations = correlations; distances = distances; scratch = scratch })) }
 {
-    let sized = lent::sized(len, rows_in, columns);
-    let rooms = judge_with_matrices(
+    lent::sized(len, rows_in, columns)?;
+    judge_with_matrices(
         columns,
         rows,
         order,
@@ -123,47 +120,46 @@ pub fn judge_covariance(
         correlations,
         distances,
         scratch,
-    );
-    let shape = judge_square(rows_in, columns);
-    refusal::and_then(sized, refusal::and_then(rooms, shape))
+    )?;
+    judge_square(rows_in, columns)
 }
 
 // No matrix, no assets, and columns or a covariance that are not theirs.
-fn judge_shapes(n: usize, prices: Shape, returns: Shape, covariance: Shape) -> Outcome
+#[tactic(auto, unfolding(crate::specs::Rooms::shapes_judged, refusal::specs::Table::first, refusal::specs::Table::or_else))]
+fn judge_shapes(
+    n: usize,
+    prices: Option<Size>,
+    returns: Option<Size>,
+    covariance: Option<Size>,
+) -> Result<(), Refusal>
     ensures { result ≡ first (shapes_judged n prices returns covariance) }
 {
-    let alone = refusal::both(inputs::is_absent(returns), inputs::is_absent(covariance));
-    let o = refusal::refuse(
-        inputs::has_other_size(covariance, n),
-        Refusal::DimensionMismatch,
-        Outcome::Done,
-    );
-    let o = refusal::refuse(
-        refusal::both(alone, inputs::has_other_columns(prices, n)),
-        Refusal::DimensionMismatch,
-        o,
-    );
-    let o = refusal::refuse(
+    let alone = inputs::is_absent(returns) && inputs::is_absent(covariance);
+    refusal::refuse(inputs::is_absent(prices) && alone, Refusal::NoData)?;
+    refusal::refuse(n == 0, Refusal::NoData)?;
+    refusal::refuse(
         inputs::has_other_columns(returns, n),
         Refusal::DimensionMismatch,
-        o,
-    );
-    let o = refusal::refuse(n == 0, Refusal::NoData, o);
+    )?;
     refusal::refuse(
-        refusal::both(inputs::is_absent(prices), alone),
-        Refusal::NoData,
-        o,
+        alone && inputs::has_other_columns(prices, n),
+        Refusal::DimensionMismatch,
+    )?;
+    refusal::refuse(
+        inputs::has_other_size(covariance, n),
+        Refusal::DimensionMismatch,
     )
 }
 
 // What the sizes and shapes alone refuse of a call on all that may be given.
+#[tactic(auto, using(crate::proofs::Judged::all_judged), unfolding(refusal::specs::Table::and_then))]
 pub fn judge(
     n: usize,
-    prices: Shape,
+    prices: Option<Size>,
     prices_len: usize,
-    returns: Shape,
+    returns: Option<Size>,
     returns_len: usize,
-    covariance: Shape,
+    covariance: Option<Size>,
     covariance_len: usize,
     rows: usize,
     order: usize,
@@ -171,11 +167,11 @@ pub fn judge(
     correlations: usize,
     distances: usize,
     scratch: usize,
-) -> Outcome
+) -> Result<(), Refusal>
     ensures { result ≡ first (hrp_judge_table n prices prices_len returns returns_len covariance covariance_len
         (record { rows = rows; order = order; weights = weights; correlations = correlations; distances = distances; scratch = scratch })) }
 {
-    let matrices = inputs::judge_matrices(
+    inputs::judge_matrices(
         n,
         prices,
         prices_len,
@@ -183,8 +179,7 @@ pub fn judge(
         returns_len,
         covariance,
         covariance_len,
-    );
-    let rooms = judge_with_matrices(n, rows, order, weights, correlations, distances, scratch);
-    let shapes = judge_shapes(n, prices, returns, covariance);
-    refusal::and_then(matrices, refusal::and_then(rooms, shapes))
+    )?;
+    judge_with_matrices(n, rows, order, weights, correlations, distances, scratch)?;
+    judge_shapes(n, prices, returns, covariance)
 }

@@ -11,9 +11,7 @@ use Rattle.refusal.specs.Refusal.{number_of, values_of}
 use Rattle.refusal.specs.Table.{first}
 use Rattle.lent.specs.Count.{count}
 use Rattle.lent.specs.Grid.{tab, sum_to, sum_on, sum_rows, any_to}
-use Rattle.lent.specs.Lent.{over_limit, other_length, laid, answer_of}
-use Rattle.lent.specs.declared.Answer.{Answer}
-use Rattle.lent.specs.declared.Answer.TheVariants as answer
+use Rattle.lent.specs.Lent.{over_limit, other_length, laid, answer_of, Answer}
 use Rattle.text.specs.Bytes.{same}
 use Rattle.tree.specs.Rows.{below, once, is_tree}
 use Rattle.tree.specs.Tree.{grow, tree_at, leaves}
@@ -27,6 +25,7 @@ use Rattle.metrics.specs.declared.Metric.TheVariants.{MinimumVariance, MinimumSt
 use Rattle.metrics.specs.Split.{Inputs, bounded, split_by, by_risk, fair, by_ratio, scored, split_of}
 use Rattle.sharing.specs.Allot.{spread_of, equal_of, deal_to, varied_of, inside_of, allotted, down_shares}
 use Rattle.sharing.specs.Down.{is_sharpe, is_tail_risk, other_rows, metric_tail_lines, DownCall, down_size_lines, down_rule_lines, down_given, down_table, down_outcome, down_answer, down_weights}
+use Rattle.std.specs.Prelude.{Ok, Err}
 
 abbrev all : List Bool → Bool
 all [] = true
@@ -34,8 +33,8 @@ all (b ∷ bs) = b && all bs
 
 -- the refusal's number and values, or 0 and the answer's rows and columns
 abbrev told_of : Answer → List ℕ
-told_of (answer.Matrix r c) = 0 ∷ r ∷ c ∷ []
-told_of (answer.Refused r) = number_of r ∷ values_of r
+told_of (Ok s) = 0 ∷ s.rows ∷ s.columns ∷ []
+told_of (Err r) = number_of r ∷ values_of r
 
 -- and the bits of the buffer
 abbrev shared : DownCall → ℕ → List ℕ

@@ -13,36 +13,32 @@ use lib.ListN.{length, set, take, drop, get_or-replicate, length-set, length-rep
 use lib.Seq.{length-take-le, ext_get_or, get_or-take}
 use lib.Ieee.{Float, binary64, mul, sub}
 use Rattle.arithmetic.specs.Constants.{pz, unit}
-use Rattle.refusal.specs.Table.{Line, first, or_else, and_then}
+use Rattle.refusal.specs.Table.{Line, first, or_else, Outcome}
 use Rattle.refusal.specs.declared.Refusal.{Refusal}
-use Rattle.refusal.specs.declared.Refusal.TheVariants.{NoData, DimensionMismatch, MissingExpectedReturnsForSharpe, InvalidNumClusters, OverLimit, SliceLength, ShortBuffer, NoTree, MissingReturnsForTailRisk, ConfidenceOutOfRange}
-use Rattle.refusal.specs.declared.Outcome.{Outcome}
-use Rattle.refusal.specs.declared.Outcome.TheVariants.{Done, Refused}
+use Rattle.refusal.specs.declared.Refusal.TheVariants.{NoData, DimensionMismatch, MissingExpectedReturnsForSharpe, InvalidNumClusters, NoTree, MissingReturnsForTailRisk, ConfidenceOutOfRange}
 use Rattle.refusal.proofs.Tables.{table, table_hit, table_pass, table_end, AllNo, none, first_append, first_done, first_refused, both_done}
 use Rattle.lent.specs.Grid.{zeros}
-use Rattle.lent.specs.Lent.{least_scratch, over_limit, other_length, laid, answer_of}
-use Rattle.lent.specs.declared.Answer.{Answer}
-use Rattle.lent.specs.declared.Answer.TheVariants as answer
+use Rattle.lent.specs.Lent.{least_scratch, over_limit, other_length, laid, answer_of, size}
 use Rattle.lent.proofs.Laws.{square_in, drop_replicate}
 use Rattle.lent.proofs.Sizes.{over_cells, same_length, laid_refused}
 use Rattle.ordering.specs.Nearest.{no_part}
 use Rattle.tree.specs.Rows.{is_tree}
 use Rattle.tree.specs.Tree.{Tree, leaf, fork, tree_at, leaves}
 use Rattle.clusters.specs.Shares.{Shares, some, is_none, weights_in}
-use Rattle.clusters.specs.Inner.{told}
+use Rattle.std.specs.Result.{is_err}
 use Rattle.clusters.specs.Shares as shares
 use Rattle.clusters.specs.Clusters.{shares_outcome}
 use Rattle.clusters.specs.Clusters as inverse
 use Rattle.metrics.specs.declared.Metric.{Metric}
 use Rattle.metrics.specs.declared.Metric.TheVariants.{MinimumVariance, MinimumStandardDeviation, SharpeRatio, EqualWeighting, ExpectedShortfall, ConditionalDrawdownRisk}
 use Rattle.metrics.specs.declared.Split.{Split}
-use Rattle.metrics.specs.declared.Splitting.{Splitting}
-use Rattle.metrics.specs.declared.Splitting.TheVariants as splitting
 use Rattle.metrics.specs.Split.{Inputs, split_of}
 use Rattle.sharing.specs.Allot.{splits, spread_of, equal_of, deal_to, if_done, varied_of, inside_of, onward, allotted, allotted_at, down_shares}
-use Rattle.sharing.specs.Down.{is_sharpe, is_tail_risk, other_rows, metric_tail_lines, DownCall, DownSizes, down_size_lines, DownRules, down_rule_lines, down_sizes, down_rules, down_given, down_table, down_outcome, down_answer, down_weights}
+use Rattle.sharing.specs.Down.{is_sharpe, is_tail_risk, other_rows, metric_tail_lines, DownCall, down_size_lines, DownRules, down_rule_lines, down_sizes, down_rules, down_given, down_table, down_outcome, down_answer, down_weights}
 use Rattle.sharing.specs.Inner.{Below, Summarized, Blank, Down}
 use Rattle.metrics.specs.Inner.{Tailed}
+use Rattle.std.specs.Prelude.{Ok, Err}
+use Rattle.metrics.specs.Outcomes.{Splitting}
 
 -- ---- sharing keeps the number of weights
 
@@ -61,12 +57,12 @@ Keeps shares.none m = Unit
 Keeps (some ws) m = length ws ≡ m
 
 if_keeps : (o : Outcome) (ws : List Float) (m : ℕ) → length ws ≡ m → Keeps (if_done o ws) m
-if_keeps Done ws m e = e
-if_keeps (Refused r) ws m e = tt
+if_keeps (Ok _) ws m e = e
+if_keeps (Err r) ws m e = tt
 
 onward_keeps : (s : Splitting) (f : Split → Shares) (m : ℕ) → ((x : Split) → Keeps (f x) m) → Keeps (onward s f) m
-onward_keeps (splitting.Refused r) f m h = tt
-onward_keeps (splitting.By x) f m h = h x
+onward_keeps (Err r) f m h = tt
+onward_keeps (Ok x) f m h = h x
 
 then_keeps : (s : Shares) (f : List Float → Shares) (m : ℕ) → Keeps s m → ((mid : List Float) → length mid ≡ m → Keeps (f mid) m) → Keeps (shares.with_shares s f) m
 then_keeps shares.none f m p h = tt
@@ -113,15 +109,17 @@ shares_length metric x cov rows n k e = kept_of (down_shares metric x cov rows n
 
 -- ---- what a call of `share` told
 
-told_none : (t : Bool) (part : List Float) (s : Shares) → told t part ≡ s → t ≡ false → is_none s ≡ true
-unfolding told is_none
-told_none t part s p d = rw (← p, d)
+told_none : (o : Outcome) (part : List Float) (s : Shares) → if_done o part ≡ s → is_err o ≡ true → is_none s ≡ true
+unfolding is_none
+told_none (Ok _) part s p d = absurd (let z : ◌≡◌ {A = ℕ} 0 1 = cc in omega arith)
+told_none (Err r) part s p d = rw (← p)
 
-told_some : (t : Bool) (part : List Float) (s : Shares) → told t part ≡ s → t ≡ true → (is_none s ≡ false) × (weights_in s ≡ part)
-unfolding told is_none weights_in
-told_some t part s p d = (rw (← p, d), rw (← p, d))
+told_some : (o : Outcome) (part : List Float) (s : Shares) → if_done o part ≡ s → is_err o ≡ false → (is_none s ≡ false) × (weights_in s ≡ part)
+unfolding is_none weights_in
+told_some (Ok _) part s p d = (rw (← p), rw (← p))
+told_some (Err r) part s p d = absurd (let z : ◌≡◌ {A = ℕ} 0 1 = cc in omega arith)
 
-laid_front : (n room : ℕ) (part blank : List Float) → blank ≡ zeros room → length part ≡ n → part ++ drop n blank ≡ laid pz Done room part
+laid_front : (n room : ℕ) (part blank : List Float) → blank ≡ zeros room → length part ≡ n → part ++ drop n blank ≡ laid pz (Ok tt) room part
 unfolding laid
 laid_front n room part blank b l = rw (b, drop_replicate, l)
 
@@ -186,13 +184,13 @@ fed_right true x w n h =
     let more : 0 < x.return_rows = f.rows in
     (rw (lt-ltb 0 x.return_rows more, eq-eqb w n f.columns), ne_eqb x.return_rows 0 (λ e. omega arith), f.part)
 
-all_no : (l : List Line) → AllNo l → first l ≡ Done
+all_no : (l : List Line) → AllNo l → first l ≡ Ok tt
 unfolding first
 all_no [] p = refl
 all_no ((t, r) ∷ l) p = table_pass t r l p.0 ∙ all_no l p.1
 
 module _ (q : DownCall) (room scratch : ℕ) where
-  pub call_right : first (down_given q room scratch) ≡ Done → Right q room scratch
+  pub call_right : first (down_given q room scratch) ≡ Ok tt → Right q room scratch
   unfolding down_given down_size_lines down_rule_lines other_rows metric_tail_lines
   call_right e =
       let a = none (down_given q room scratch) e in
@@ -236,7 +234,7 @@ module _ (q : DownCall) (room scratch : ℕ) where
     unfolding other_length
     whole_returns = rw (eq-eqb (length q.inputs.returns) (q.inputs.return_rows * q.return_columns) p.returns)
 
-    pub right_passes : first (down_given q room scratch) ≡ Done
+    pub right_passes : first (down_given q room scratch) ≡ Ok tt
     unfolding down_given down_size_lines down_rule_lines other_rows metric_tail_lines
     right_passes =
         let x = expected_right (is_sharpe q.metric) q.expected_given (length q.inputs.expected) q.assets p.expects in
@@ -270,42 +268,39 @@ module _ (q : DownCall) (room scratch : ℕ) where
     pub weights : down_shares q.metric q.inputs q.covariance q.rows q.assets q.clusters ≡ some (weights_in (down_shares q.metric q.inputs q.covariance q.rows q.assets q.clusters))
     pub size : length (weights_in (down_shares q.metric q.inputs q.covariance q.rows q.assets q.clusters)) ≡ q.assets
 
-  pub down_accepted : down_outcome q room scratch ≡ Done → Accepted
+  pub down_accepted : down_outcome q room scratch ≡ Ok tt → Accepted
   unfolding down_outcome down_table
   down_accepted e =
       let d = both_done (first (down_given q room scratch)) (first ((is_none given, NoData) ∷ [])) (sym (first_append (down_given q room scratch) ((is_none given, NoData) ∷ [])) ∙ e) in
       let l = shares_length q.metric q.inputs q.covariance q.rows q.assets q.clusters (none ((is_none given, NoData) ∷ []) d.1).0 in
       record { right = call_right d.0; weights = l.0; size = l.1 }
 
-  answered_as : (said o : Outcome) (a : Answer) (out : List Float) → down_outcome q room scratch ≡ o → said ≡ o → a ≡ answer_of said 1 q.assets → out ≡ laid pz o room (weights_in given) → (a ≡ down_answer q room scratch) × (out ≡ down_weights q room scratch)
+  answered_as : (o : Outcome) (out : List Float) → down_outcome q room scratch ≡ o → out ≡ laid pz o room (weights_in given) → (answer_of o 1 q.assets ≡ down_answer q room scratch) × (out ≡ down_weights q room scratch)
   unfolding down_answer down_weights
-  answered_as said o a out d s e z = (rw (d, ← s) e, rw d z)
+  answered_as o out d z = (rw d, rw d z)
 
-  module _ (said : Outcome) (e : said ≡ first (down_given q room scratch)) where
-    -- before anything was shared out
-    pub down_refused : (r : Refusal) (a : Answer) (out : List Float) → said ≡ Refused r → a ≡ answer_of said 1 q.assets → out ≡ zeros room → (a ≡ down_answer q room scratch) × (out ≡ down_weights q room scratch)
-    unfolding down_outcome down_table
-    down_refused r a out h g z =
-        answered_as said (Refused r) a out (first_refused (down_given q room scratch) ((is_none given, NoData) ∷ []) r (sym e ∙ h)) h g (z ∙ laid_refused pz (Refused r) r room (weights_in given) refl)
+  -- before anything was shared out
+  pub down_refused : (r : Refusal) (out : List Float) → Err r ≡ first (down_given q room scratch) → out ≡ zeros room → (Err r ≡ down_answer q room scratch) × (out ≡ down_weights q room scratch)
+  unfolding down_outcome down_table answer_of
+  down_refused r out e z =
+      answered_as (Err r) out (first_refused (down_given q room scratch) ((is_none given, NoData) ∷ []) r (sym e)) (z ∙ laid_refused pz (Err r) r room (weights_in given) refl)
 
-    module _ (h : said ≡ Done) where
-      pub said_right : Right q room scratch
-      said_right = call_right (sym e ∙ h)
+  module _ (p : Right q room scratch) where
+    -- sharing refused, and the buffer was cleared
+    pub down_none : (o : Outcome) (part out : List Float) (len : ℕ) → if_done o part ≡ down_shares q.metric q.inputs q.covariance q.rows q.assets q.clusters → is_err o ≡ true → out ≡ zeros len → len ≡ room
+        → (Err NoData ≡ down_answer q room scratch) × (out ≡ down_weights q room scratch)
+    unfolding answer_of
+    down_none o part out len g f z l =
+        answered_as (Err NoData) out (down_as_shares p ∙ table_hit _ _ _ (told_none o part given g f)) (z ∙ ap zeros l ∙ laid_refused pz (Err NoData) NoData room (weights_in given) refl)
 
-      -- sharing refused, and the buffer was cleared
-      pub down_none : (t : Bool) (part out : List Float) (len : ℕ) → told t part ≡ down_shares q.metric q.inputs q.covariance q.rows q.assets q.clusters → t ≡ false → out ≡ zeros len → len ≡ room
-          → (answer.Refused NoData ≡ down_answer q room scratch) × (out ≡ down_weights q room scratch)
-      unfolding answer_of
-      down_none t part out len g f z l =
-          answered_as (Refused NoData) (Refused NoData) (answer.Refused NoData) out (down_as_shares said_right ∙ table_hit _ _ _ (told_none t part given g f)) refl refl (z ∙ ap zeros l ∙ laid_refused pz (Refused NoData) NoData room (weights_in given) refl)
-
-      -- weights in the front of a cleared buffer
-      pub down_some : (t : Bool) (part blank out : List Float) (a : Answer) → told t part ≡ down_shares q.metric q.inputs q.covariance q.rows q.assets q.clusters → t ≡ true
-          → a ≡ answer_of said 1 q.assets → blank ≡ zeros room → out ≡ part ++ drop q.assets blank → length part ≡ q.assets → (a ≡ down_answer q room scratch) × (out ≡ down_weights q room scratch)
-      down_some t part blank out a g f k b o l =
-          let w = told_some t part given g f in
-          answered_as said Done a out (down_as_shares said_right ∙ table_pass _ _ _ w.0 ∙ table_end) h k
-          (o ∙ laid_front q.assets room part blank b l ∙ ap (laid pz Done room) (sym w.1))
+    -- weights in the front of a cleared buffer
+    pub down_some : (o : Outcome) (part blank out : List Float) → if_done o part ≡ down_shares q.metric q.inputs q.covariance q.rows q.assets q.clusters → is_err o ≡ false
+        → blank ≡ zeros room → out ≡ part ++ drop q.assets blank → length part ≡ q.assets → (Ok (size 1 q.assets) ≡ down_answer q room scratch) × (out ≡ down_weights q room scratch)
+    unfolding answer_of
+    down_some o part blank out g f b w l =
+        let t = told_some o part given g f in
+        answered_as (Ok tt) out (down_as_shares p ∙ table_pass _ _ _ t.0 ∙ table_end)
+        (w ∙ laid_front q.assets room part blank b l ∙ ap (laid pz (Ok tt) room) (sym t.1))
 
 -- ---- what `share` is lent: the summary of the tree, and the front of a cleared buffer
 
@@ -360,27 +355,20 @@ cleared_blank {after = after} m h e =
     let l : length after ≡ m = ap length e ∙ length-replicate m pz in
     record { enough = omega arith; zero = e ∙ ap zeros (sym l) }
 
--- ---- the lines as the two judges have them, the last one first
+-- ---- the two judges
 
-pub sizes_said : (s : DownSizes) (other ragged misfit many big : Bool) (o1 o2 o3 o4 o5 o6 o7 o8 : Outcome)
-    → other ≡ (not (eqb s.covariance_rows s.assets) || not (eqb s.covariance_columns s.assets))
-    → ragged ≡ other_length s.return_cells s.return_rows s.return_columns
-    → misfit ≡ other_length s.covariance_cells s.covariance_rows s.covariance_columns
-    → many ≡ over_limit s.return_rows s.return_columns
-    → big ≡ over_limit s.covariance_rows s.covariance_columns
-    → o1 ≡ or_else other DimensionMismatch Done
-    → o2 ≡ or_else (ltb s.scratch 8192) ShortBuffer o1
-    → o3 ≡ or_else (ltb s.room s.assets) ShortBuffer o2
-    → o4 ≡ or_else ragged SliceLength o3
-    → o5 ≡ or_else misfit SliceLength o4
-    → o6 ≡ or_else many OverLimit o5
-    → o7 ≡ or_else big OverLimit o6
-    → o8 ≡ or_else (ltb 64 s.assets) OverLimit o7
-    → o8 ≡ first (down_size_lines s)
-unfolding down_size_lines
-sizes_said s other ragged misfit many big o1 o2 o3 o4 o5 o6 o7 o8 p1 p2 p3 p4 p5 l1 l2 l3 l4 l5 l6 l7 l8 =
-    simp (table, table_end) (rw (l8, l7, l6, l5, l4, l3, l2, l1, p5, p4, p3, p2, p1))
+module _ (q : DownCall) (room scratch : ℕ) (sizes : Outcome) (s : sizes ≡ first (down_size_lines (down_sizes q room scratch))) where
+  -- the sizes are refused
+  pub sizes_refused : (r : Refusal) → sizes ≡ Err r → Err r ≡ first (down_given q room scratch)
+  unfolding down_given
+  sizes_refused r h = sym (first_refused (down_size_lines (down_sizes q room scratch)) (down_rule_lines (down_rules q)) r (sym s ∙ h))
 
+  -- they are not: the rules judge
+  pub rules_judge : (rules : Outcome) → sizes ≡ Ok tt → rules ≡ first (down_rule_lines (down_rules q)) → rules ≡ first (down_given q room scratch)
+  unfolding down_given
+  rules_judge rules h r = r ∙ sym (first_done (down_size_lines (down_sizes q room scratch)) (down_rule_lines (down_rules q)) (sym s ∙ h))
+
+-- the same where the lines are said one by one, from the last to the first
 pub rules_said : (r : DownRules) (sharpe tail missing wrong unexpected present other-rows no_rows off unpart no-count tree : Bool) (o1 o2 o3 o4 o5 o6 o7 o8 : Outcome)
     → sharpe ≡ is_sharpe r.metric
     → tail ≡ is_tail_risk r.metric
@@ -394,7 +382,7 @@ pub rules_said : (r : DownRules) (sharpe tail missing wrong unexpected present o
     → unpart ≡ (tail && off)
     → no-count ≡ (eqb r.clusters 0 || ltb r.assets r.clusters)
     → tree ≡ is_tree r.rows r.assets
-    → o1 ≡ or_else no-count (InvalidNumClusters r.clusters r.assets) Done
+    → o1 ≡ or_else no-count (InvalidNumClusters r.clusters r.assets) (Ok tt)
     → o2 ≡ or_else unpart ConfidenceOutOfRange o1
     → o3 ≡ or_else no_rows MissingReturnsForTailRisk o2
     → o4 ≡ or_else missing MissingExpectedReturnsForSharpe o3
@@ -406,9 +394,3 @@ pub rules_said : (r : DownRules) (sharpe tail missing wrong unexpected present o
 unfolding down_rule_lines other_rows metric_tail_lines
 rules_said r sharpe tail missing wrong unexpected present other-rows no_rows off unpart no-count tree o1 o2 o3 o4 o5 o6 o7 o8 p1 p2 p3 p4 p5 p6 p7 p8 p9 p10 p11 p12 l1 l2 l3 l4 l5 l6 l7 l8 =
     simp (table, table_end) (rw (l8, l7, l6, l5, l4, l3, l2, l1, p12, p11, p10, p9, p8, p7, p6, p5, p4, p3, p2, p1))
-
--- and joined
-pub both_said : (q : DownCall) (room scratch : ℕ) (sizes rules said : Outcome) → sizes ≡ first (down_size_lines (down_sizes q room scratch)) → rules ≡ first (down_rule_lines (down_rules q))
-    → said ≡ and_then sizes rules → said ≡ first (down_given q room scratch)
-unfolding down_given
-both_said q room scratch sizes rules said s r e = e ∙ ap (λ (o : Outcome). and_then o rules) s ∙ ap (and_then _) r ∙ sym (first_append _ _)

@@ -3,7 +3,7 @@ use Prim.Native.Nat.{ℕ, zero, suc, ◌+◌, ◌-◌, ◌*◌, ◌<◌, ◌≤�
 use mathlib.Core.Path.{◌≡◌, refl, sym, ap, ◌∙◌}
 use mathlib.Core.Bool.{Bool, true, false}
 use mathlib.Core.List.{List, ◌++◌}
-use native.Mathlib.Nat.{le_refl, le_antisymm}
+use native.Mathlib.Nat.{le_refl}
 use native.Mathlib.Numerals.{add-one}
 use native.Mathlib.Omega.{arith}
 use lib.ListN.{length, get_or, set, take, drop, drop_of_length-le, replicate-append-replicate}
@@ -11,11 +11,8 @@ use lib.Seq.{drop-cons, length-take-le}
 use lib.Ieee.{Float, nan, binary64, mul}
 use Rattle.arithmetic.specs.Constants.{pz}
 use Rattle.refusal.specs.declared.Refusal.{Refusal}
-use Rattle.refusal.specs.declared.Outcome.{Outcome}
-use Rattle.refusal.specs.declared.Outcome.TheVariants.{Done, Refused}
 use Rattle.lent.specs.Grid.{zeros, over}
-use Rattle.lent.specs.Lent.{answer_of}
-use Rattle.lent.specs.declared.Answer.TheVariants as answer
+use Rattle.lent.specs.Lent.{answer_of, size}
 use Rattle.lent.proofs.Laws.{get_d_over, drop_replicate}
 use Rattle.lent.proofs.Sizes.{laid_done, within_limit}
 use Rattle.tree.specs.Tree.{leaves_of}
@@ -30,13 +27,16 @@ use Rattle.clusters.specs.Shares.{none, some}
 use Rattle.clusters.proofs.Laws.{length_shares}
 use Rattle.clusters.proofs.Sharing.{shares_as_variance}
 use Rattle.metrics.specs.declared.Metric.{Metric}
-use Rattle.metrics.specs.declared.Splitting.{Splitting}
+use Rattle.metrics.specs.declared.Metric.TheVariants.{MinimumVariance, MinimumStandardDeviation, SharpeRatio, EqualWeighting, ExpectedShortfall, ConditionalDrawdownRisk}
 use Rattle.metrics.specs.Names.{is_tail_risk}
 use Rattle.metrics.specs.Split.{Inputs, split_of, split_answer}
 use Rattle.metrics.specs.Inner.{Fed}
 use Rattle.metrics.proofs.Laws.{split_known}
-use Rattle.sharing.specs.Allot.{spread_of, deal_to, varied_of}
+use Rattle.sharing.specs.Allot.{spread_of, deal_to, varied_of, inside_of}
 use Rattle.sharing.specs.Inner.{Below, Summarized, Dealt, Blank}
+use Rattle.std.specs.Prelude.{Ok, Err}
+use Rattle.metrics.specs.Outcomes.{Splitting}
+use Rattle.refusal.specs.Table.{Outcome}
 
 -- ---- the split of two sides, in the front of a scratch that is zero
 
@@ -112,9 +112,6 @@ module _ (ms : List ℕ) (ps : List Float) (w : Float) (ws : List Float) where
   unfolding deal_to
   deal_step d d' k e h = rw (add-one, e, h)
 
-  pub deal_end : (d : List Float) (k n : ℕ) → d ≡ deal_to k ms ps w ws → k ≤ n → n ≤ k → d ≡ deal_to n ms ps w ws
-  deal_end d k n e h g = e ∙ ap (λ (i : ℕ). deal_to i ms ps w ws) (le_antisymm h g)
-
 deal_ext : (n : ℕ) (ms : List ℕ) (ps qs : List Float) (w : Float) (ws : List Float) → ((k : ℕ) → k < n → get_or ps k nan ≡ get_or qs k nan) → deal_to n ms ps w ws ≡ deal_to n ms qs w ws
 unfolding deal_to
 deal_ext zero ms ps qs w ws h = refl
@@ -125,29 +122,39 @@ deal_ext (suc n) ms ps qs w ws h =
 
 -- ---- by inverse variance, the parts being worked out in a buffer of 64
 
-answer_done : (o : Outcome) (a b i j : ℕ) → answer_of o a b ≡ answer.Matrix i j → o ≡ Done
+answer_done : (o : Outcome) (a b i j : ℕ) → answer_of o a b ≡ Ok (size i j) → o ≡ Ok tt
 unfolding answer_of
-answer_done Done a b i j e = refl
-answer_done (Refused r) a b i j e = absurd (let z : ◌≡◌ {A = ℕ} 0 1 = cc in omega arith)
+answer_done (Ok _) a b i j e = refl
+answer_done (Err r) a b i j e = absurd (let z : ◌≡◌ {A = ℕ} 0 1 = cc in omega arith)
 
-answer_not : (o : Outcome) (a b : ℕ) (r : Refusal) → answer_of o a b ≡ answer.Refused r → o ≡ Refused r
+answer_not : (o : Outcome) (a b : ℕ) (r : Refusal) → answer_of o a b ≡ Err r → o ≡ Err r
 unfolding answer_of
-answer_not Done a b r e = absurd (let z : ◌≡◌ {A = ℕ} 0 1 = cc in omega arith)
-answer_not (Refused r') a b r e = cc
+answer_not (Ok _) a b r e = absurd (let z : ◌≡◌ {A = ℕ} 0 1 = cc in omega arith)
+answer_not (Err r') a b r e = cc
 
 module _ (cov : List Float) (n : ℕ) (ms : List ℕ) (w : Float) (ws : List Float) (few : length ms ≤ 64) where
   same_outcome : shares_outcome cov n n ms (length ms) ≡ shares_outcome cov n n ms 64
   same_outcome = shares_as_variance cov n n ms (length ms) (le_refl (length ms)) ∙ sym (shares_as_variance cov n n ms 64 few)
 
-  pub varied_none : (r : Refusal) → shares_answer cov n n ms 64 ≡ answer.Refused r → none ≡ varied_of cov n ms w ws
+  pub varied_none : (r : Refusal) → shares_answer cov n n ms 64 ≡ Err r → none ≡ varied_of cov n ms w ws
   unfolding varied_of shares_answer
   varied_none r e = rw (same_outcome, answer_not _ _ _ r e)
 
-  pub varied_some : (i j : ℕ) (ps d : List Float) → shares_answer cov n n ms 64 ≡ answer.Matrix i j → ps ≡ shares_laid cov n n ms 64 → d ≡ deal_to (length ms) ms ps w ws → some d ≡ varied_of cov n ms w ws
+  pub varied_some : (i j : ℕ) (ps d : List Float) → shares_answer cov n n ms 64 ≡ Ok (size i j) → ps ≡ shares_laid cov n n ms 64 → d ≡ deal_to (length ms) ms ps w ws → some d ≡ varied_of cov n ms w ws
   unfolding varied_of shares_answer shares_laid
   varied_some i j ps d e q h =
-      let g : shares_outcome cov n n ms 64 ≡ Done = answer_done (shares_outcome cov n n ms 64) 1 (length ms) i j e in
+      let g : shares_outcome cov n n ms 64 ≡ (Ok tt) = answer_done (shares_outcome cov n n ms 64) 1 (length ms) i j e in
       let o : ps ≡ over (shares cov n ms) (zeros 64) = q ∙ sym (laid_done pz (shares_outcome cov n n ms 64) 64 (shares cov n ms) g) in
       let z = length_shares cov n ms in
       let x = deal_ext (length ms) ms ps (shares cov n ms) w ws (λ k l. ap (λ (t : List Float). get_or t k nan) o ∙ get_d_over (shares cov n ms) (zeros 64) k nan (omega arith)) in
       rw (same_outcome, g, h, x)
+
+-- but for equal weighting, every metric deals by inverse variance
+pub inside_varied : (metric : Metric) (cov : List Float) (n : ℕ) (ms : List ℕ) (w : Float) (ws : List Float) → (metric ≡ EqualWeighting → ⊥) → inside_of metric cov n ms w ws ≡ varied_of cov n ms w ws
+unfolding inside_of
+inside_varied MinimumVariance cov n ms w ws h = refl
+inside_varied MinimumStandardDeviation cov n ms w ws h = refl
+inside_varied SharpeRatio cov n ms w ws h = refl
+inside_varied EqualWeighting cov n ms w ws h = absurd (h refl)
+inside_varied ExpectedShortfall cov n ms w ws h = refl
+inside_varied ConditionalDrawdownRisk cov n ms w ws h = refl

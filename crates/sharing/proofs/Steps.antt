@@ -1,7 +1,6 @@
 -- The steps of `share` in plain lists. Assumes nothing.
 use Prim.Native.Nat.{ℕ, ◌+◌, ◌-◌, ◌<◌, ◌≤◌}
 use mathlib.Core.Path.{◌≡◌, ◌∙◌}
-use mathlib.Core.Bool.{Bool, true, false}
 use mathlib.Core.List.{List}
 use native.Mathlib.Omega.{arith}
 use lib.ListN.{length, set}
@@ -13,15 +12,15 @@ use Rattle.tree.specs.Tree.{left, right, leaves_of}
 use Rattle.tree.proofs.Tree.{tree_leaf, tree_on, on_left, on_right}
 use Rattle.branches.specs.Summary.{part_of}
 use Rattle.clusters.specs.Shares.{Shares, none, some, with_shares}
-use Rattle.clusters.specs.Inner.{told}
+use Rattle.refusal.specs.Table.{Outcome}
 use Rattle.metrics.specs.declared.Metric.{Metric}
 use Rattle.metrics.specs.declared.Split.{Split}
-use Rattle.metrics.specs.declared.Splitting.{Splitting}
-use Rattle.metrics.specs.declared.Splitting.TheVariants as splitting
 use Rattle.metrics.specs.Split.{Inputs, split_of}
-use Rattle.sharing.specs.Allot.{inside_of, onward, allotted, allotted_at}
+use Rattle.sharing.specs.Allot.{if_done, inside_of, onward, allotted, allotted_at}
 use Rattle.sharing.specs.Inner.{Below, Dealt, Down}
 use Rattle.sharing.proofs.Laws.{leaves_dealt}
+use Rattle.std.specs.Prelude.{Ok, Err}
+use Rattle.metrics.specs.Outcomes.{Splitting}
 
 module _ {rows : List ℕ} {n v : ℕ} (p : Below rows n v) (ge : n ≤ v) where
   below_left : Below rows n (left rows (v - n))
@@ -73,16 +72,14 @@ module _ {metric : Metric} {x : Inputs} {rows : List ℕ} {n k v : ℕ} {order f
       unfolding allotted
       allot_split = rw (g, left_part p ge a, right_part p ge b, tree_on p.node.on ge, le-leb n (v - n + k) h)
 
-      pub no_split : {r : Refusal} → o ≡ splitting.Refused r → allotted_at metric x cov rows n k v w ws ≡ none
+      pub no_split : {r : Refusal} → o ≡ Err r → allotted_at metric x cov rows n k v w ws ≡ none
       no_split q = rw (allot_split, q)
 
       -- the left call refused, or left `mid` and the right call said what it gave
-      module _ {s : Split} (q : o ≡ splitting.By s) (r : Bool) (mid : List Float) (one : told r mid ≡ allotted_at metric x cov rows n k (left rows (v - n)) (mul binary64 w s.factor) ws) where
-        pub left_refused : r ≡ false → allotted_at metric x cov rows n k v w ws ≡ none
-        unfolding told
-        left_refused no-left = rw (allot_split, q, ← one, no-left)
+      module _ {s : Split} (q : o ≡ Ok s) (said : Outcome) (mid : List Float) (one : if_done said mid ≡ allotted_at metric x cov rows n k (left rows (v - n)) (mul binary64 w s.factor) ws) where
+        pub left_refused : {r : Refusal} → said ≡ Err r → allotted_at metric x cov rows n k v w ws ≡ none
+        left_refused h = rw (allot_split, q, ← one, h)
 
-        pub both : {o2 : Shares} → r ≡ true → o2 ≡ allotted_at metric x cov rows n k (right rows (v - n)) (mul binary64 w (sub binary64 unit s.factor)) mid
+        pub both : {o2 : Shares} → said ≡ Ok tt → o2 ≡ allotted_at metric x cov rows n k (right rows (v - n)) (mul binary64 w (sub binary64 unit s.factor)) mid
             → o2 ≡ allotted_at metric x cov rows n k v w ws
-        unfolding told
-        both went two = rw (allot_split, q, ← one, went) two
+        both h two = rw (allot_split, q, ← one, h) two

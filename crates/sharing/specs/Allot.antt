@@ -1,11 +1,9 @@
 -- Document 01, "Sharing out": HCAA's recursion down the tree. Definitions only.
-use Rattle.std.specs.Prelude.{ℕ, zero, suc, ◌+◌, ◌-◌, ◌*◌, Bool, true, false, List, [], ◌∷◌, leb, length, get_or, set, Float}
+use Rattle.std.specs.Prelude.{ℕ, zero, suc, ◌+◌, ◌-◌, ◌*◌, Bool, true, false, List, [], ◌∷◌, leb, length, get_or, set, Float, Ok, Err}
 use Rattle.std.specs.Float.{nan, binary64}
 use Rattle.std.specs.Float.Ieee.{sub, mul}
 use Rattle.arithmetic.specs.Constants.{unit}
 use Rattle.arithmetic.specs.Arithmetic.{one_over}
-use Rattle.refusal.specs.declared.Outcome.{Outcome}
-use Rattle.refusal.specs.declared.Outcome.TheVariants.{Done, Refused}
 use Rattle.lent.specs.Grid.{zeros}
 use Rattle.clusters.specs.Clusters.{nth, shares, shares_outcome}
 use Rattle.clusters.specs.Shares.{Shares, none, some, with_shares}
@@ -13,9 +11,9 @@ use Rattle.tree.specs.Tree.{Tree, leaf, fork, tree_at, leaves}
 use Rattle.metrics.specs.declared.Metric.{Metric}
 use Rattle.metrics.specs.declared.Metric.TheVariants.{MinimumVariance, MinimumStandardDeviation, SharpeRatio, EqualWeighting, ExpectedShortfall, ConditionalDrawdownRisk}
 use Rattle.metrics.specs.declared.Split.{Split}
-use Rattle.metrics.specs.declared.Splitting.{Splitting}
-use Rattle.metrics.specs.declared.Splitting.TheVariants as splitting
 use Rattle.metrics.specs.Split.{Inputs, split_of}
+use Rattle.metrics.specs.Outcomes.{Splitting}
+use Rattle.refusal.specs.Table.{Outcome}
 
 -- "Node n + row splits when row + k ≥ n"; an asset is never cut
 abbrev pub splits : ℕ → ℕ → Tree → Bool
@@ -38,8 +36,8 @@ deal_to zero ms ps w ws = ws
 deal_to (suc k) ms ps w ws = set (deal_to k ms ps w ws) (nth ms k) (mul binary64 w (get_or ps k nan))
 
 abbrev pub if_done : Outcome → List Float → Shares
-if_done Done ws = some ws
-if_done (Refused r) ws = none
+if_done (Ok _) ws = some ws
+if_done (Err r) ws = none
 
 -- "else inverse variance"
 unfoldable pub varied_of : List Float → ℕ → List ℕ → Float → List Float → Shares
@@ -56,8 +54,8 @@ inside_of ExpectedShortfall cov n ms w ws = varied_of cov n ms w ws
 inside_of ConditionalDrawdownRisk cov n ms w ws = varied_of cov n ms w ws
 
 abbrev pub onward : Splitting → (Split → Shares) → Shares
-onward (splitting.Refused r) f = none
-onward (splitting.By s) f = f s
+onward (Err r) f = none
+onward (Ok s) f = f s
 
 -- the weights once w has been shared out below a node; b says whether the node splits, and is matched on.
 -- "Children get weight · factor and weight · (1 − factor). An uncut asset gets its node's weight"

@@ -1,11 +1,9 @@
 -- What `allocate_down_tree` answers, and what it leaves in its buffer. Definitions only.
 use Rattle.std.specs.Prelude.{ℕ, Bool, not, ◌&&◌, ◌||◌, List, [], ◌∷◌, ◌++◌, ltb, eqb, length, Float}
 use Rattle.arithmetic.specs.Constants.{pz}
-use Rattle.refusal.specs.Table.{Line, first}
+use Rattle.refusal.specs.Table.{Line, first, Outcome}
 use Rattle.refusal.specs.declared.Refusal.TheVariants.{NoData, DimensionMismatch, MissingExpectedReturnsForSharpe, InvalidNumClusters, OverLimit, SliceLength, ShortBuffer, NoTree}
-use Rattle.refusal.specs.declared.Outcome.{Outcome}
-use Rattle.lent.specs.Lent.{most_assets, least_scratch, over_limit, other_length, laid, answer_of}
-use Rattle.lent.specs.declared.Answer.{Answer}
+use Rattle.lent.specs.Lent.{most_assets, least_scratch, over_limit, other_length, laid, answer_of, Answer}
 use Rattle.tails.specs.Measures.{other_width, tail_lines}
 use Rattle.clusters.specs.Shares.{is_none, weights_in}
 use Rattle.tree.specs.Rows.{is_tree}

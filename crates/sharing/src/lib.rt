@@ -1,22 +1,20 @@
 // Sharing a weight out down a tree of merge rows, as HCAA does.
 #![tactic(auto)]
 
-ghost use Rattle.std.specs.Prelude.{◌≡◌, true, ◌+◌, ◌-◌, ◌*◌, ◌<◌, ◌≤◌, length, set};
+ghost use Rattle.std.specs.Prelude.{◌≡◌, true, ◌+◌, ◌-◌, ◌*◌, ◌<◌, ◌≤◌, length, set, Err};
 ghost use Rattle.refusal.specs.Table.{first};
 ghost use Rattle.refusal.specs.declared.Refusal.TheVariants.{NoData};
-ghost use Rattle.lent.specs.declared.Answer.TheVariants as answer;
 ghost use Rattle.lent.specs.Grid.{zeros};
-ghost use Rattle.clusters.specs.Inner.{told};
 ghost use Rattle.metrics.specs.Split.{split_of};
 ghost use Rattle.metrics.specs.Inner.{inputs, Fed};
-ghost use Rattle.sharing.specs.Allot.{spread_of, equal_of, deal_to, varied_of, inside_of, allotted_at};
+ghost use Rattle.sharing.specs.Allot.{spread_of, equal_of, deal_to, if_done, varied_of, inside_of, allotted_at};
 ghost use Rattle.sharing.specs.Down.{is_tail_risk, down_size_lines, down_rule_lines, down_answer, down_weights};
 ghost use Rattle.sharing.specs.Inner.{Below, Summarized, Dealt, Blank, Down};
 
-use lent::Answer;
-use metrics::Splitting;
-pub use metrics::{Metric, NamedMetric, is_sharpe, is_tail_risk, metric_named};
-use refusal::{Outcome, Refusal};
+use lent::Size;
+use metrics::Split;
+pub use metrics::{Metric, is_sharpe, is_tail_risk, metric_named};
+use refusal::Refusal;
 use tree::{Asset, Node};
 
 // The numbers that stay the same on the whole way down.
@@ -52,7 +50,7 @@ fn split_at(
     left: &[usize],
     right: &[usize],
     scratch: &mut [f64],
-) -> Splitting
+) -> Result<Split, Refusal>
     requires fed { Fed metric (inputs expected.now returns.now return_rows confidence) n }
     requires blank { Blank scratch.old }
     ensures value { result ≡ split_of metric (inputs expected.now returns.now return_rows confidence)
@@ -88,9 +86,9 @@ fn order_leaves(
     requires sizes_len { length sizes.old ≡ 127 }
     ensures { Summarized rows.now n order.new firsts.new sizes.new }
 {
-    tree::quasi_diagonalization(rows, n, Node(2 * n - 2), order);
+    let _ = tree::quasi_diagonalization(rows, n, Node(2 * n - 2), order);
     let mut depths = [0usize; 127];
-    branches::summarize(rows, n, firsts, sizes, &mut depths);
+    let _ = branches::summarize(rows, n, firsts, sizes, &mut depths);
 }
 
 // Gives an asset its weight.
@@ -98,8 +96,7 @@ fn give(asset: Asset, w: f64, weights: &mut [f64])
     requires { asset.0 < length weights.old }
     ensures { weights.new ≡ set weights.old asset.0 w }
 {
-    let at = asset.0;
-    weights[at] = arithmetic::settled(w);
+    weights[asset.0] = arithmetic::settled(w);
 }
 
 // The same weight to each of the assets listed.
@@ -107,10 +104,8 @@ fn spread(members: &[usize], w: f64, weights: &mut [f64])
     requires { Dealt members.now (length weights.old) }
     ensures { weights.new ≡ spread_of members.now w weights.old }
 {
-    let mut i: usize = 0;
-    while i < members.len() {
-        give(Asset(members[i]), w, weights);
-        i += 1;
+    for &a in members {
+        give(Asset(a), w, weights);
     }
 }
 
@@ -119,34 +114,26 @@ fn deal(members: &[usize], parts: &[f64; 64], weight: f64, weights: &mut [f64])
     requires { Dealt members.now (length weights.old) }
     ensures { weights.new ≡ deal_to (length members.now) members.now parts.now weight weights.old }
 {
-    let mut i: usize = 0;
-    while i < members.len() {
-        give(Asset(members[i]), weight * parts[i], weights);
-        i += 1;
+    for (i, &a) in members.iter().enumerate() {
+        give(Asset(a), weight * parts[i], weights);
     }
 }
 
-// By inverse variance; false where the cluster's variances are refused.
+// By inverse variance; refused where the cluster's variances are.
 fn deal_by_variance(
     cov: &[f64],
     n: usize,
     members: &[usize],
     weight: f64,
     weights: &mut [f64],
-) -> bool
+) -> Result<(), Refusal>
     requires { Dealt members.now (length weights.old) }
-    ensures { told result weights.new ≡ varied_of cov.now n members.now weight weights.old }
+    ensures { if_done result weights.new ≡ varied_of cov.now n members.now weight weights.old }
 {
     let mut parts = [0.0; 64];
-    let Answer::Matrix {
-        rows: _,
-        columns: _,
-    } = clusters::inverse_variance_weights(cov, n, n, members, &mut parts)
-    else {
-        return false;
-    };
+    clusters::inverse_variance_weights(cov, n, n, members, &mut parts)?;
     deal(members, &parts, weight, weights);
-    true
+    Ok(())
 }
 
 // In equal parts.
@@ -161,7 +148,7 @@ fn deal_equally(members: &[usize], weight: f64, weights: &mut [f64])
     );
 }
 
-// A cut cluster's weight goes to its assets; false where they are refused.
+// A cut cluster's weight goes to its assets, unless they are refused.
 fn inside(
     metric: Metric,
     cov: &[f64],
@@ -169,24 +156,20 @@ fn inside(
     members: &[usize],
     weight: f64,
     weights: &mut [f64],
-) -> bool
+) -> Result<(), Refusal>
     requires { Dealt members.now (length weights.old) }
-    ensures { told result weights.new ≡ inside_of metric cov.now n members.now weight weights.old }
+    ensures { if_done result weights.new ≡ inside_of metric cov.now n members.now weight weights.old }
 {
     match metric {
-        Metric::MinimumVariance => deal_by_variance(cov, n, members, weight, weights),
-        Metric::MinimumStandardDeviation => deal_by_variance(cov, n, members, weight, weights),
-        Metric::SharpeRatio => deal_by_variance(cov, n, members, weight, weights),
         Metric::EqualWeighting => {
             deal_equally(members, weight, weights);
-            true
+            Ok(())
         }
-        Metric::ExpectedShortfall => deal_by_variance(cov, n, members, weight, weights),
-        Metric::ConditionalDrawdownRisk => deal_by_variance(cov, n, members, weight, weights),
+        _ => deal_by_variance(cov, n, members, weight, weights),
     }
 }
 
-// Shares a weight out below a node; false where a side, or a cut cluster, is refused. A node's members are looked up in the order.
+// Shares a weight out below a node, unless a side, or a cut cluster, is refused. A node's members are looked up in the order.
 fn share(
     metric: Metric,
     plan: Plan,
@@ -201,23 +184,25 @@ fn share(
     weight: f64,
     weights: &mut [f64],
     scratch: &mut [f64],
-) -> bool
+) -> Result<(), Refusal>
     requires down { Down metric (inputs expected.now returns.now plan.periods plan.confidence)
         rows.now plan.n plan.clusters node.0 order.now firsts.now sizes.now weights.old }
     requires blank { Blank scratch.old }
-    ensures weights_after { told result weights.new
+    ensures weights_after { if_done result weights.new
         ≡ allotted_at metric (inputs expected.now returns.now plan.periods plan.confidence)
         cov.now rows.now plan.n plan.clusters node.0 weight weights.old }
     ensures scratch_unchanged { scratch.new ≡ scratch.old }
 {
     let at = node.0;
-    let n = plan.n;
-    let clusters = plan.clusters;
-    let periods = plan.periods;
-    let confidence = plan.confidence;
+    let Plan {
+        periods,
+        confidence,
+        n,
+        clusters,
+    } = plan;
     if at < n {
         give(Asset(at), weight, weights);
-        return true;
+        return Ok(());
     }
     let k = at - n;
     if k + clusters < n {
@@ -228,13 +213,11 @@ fn share(
     let b = rows[2 * k + 1];
     let left = branches::members(order, firsts, sizes, n, Node(a));
     let right = branches::members(order, firsts, sizes, n, Node(b));
-    let Splitting::By(s) = split_at(
+    let split = split_at(
         metric, expected, returns, periods, confidence, cov, n, left, right, scratch,
-    ) else {
-        return false;
-    };
-    let f = s.factor;
-    if !share(
+    )?;
+    let f = split.factor;
+    share(
         metric,
         plan,
         expected,
@@ -248,9 +231,7 @@ fn share(
         weight * f,
         weights,
         scratch,
-    ) {
-        return false;
-    }
+    )?;
     share(
         metric,
         plan,
@@ -268,7 +249,8 @@ fn share(
     )
 }
 
-// What the sizes alone refuse: the last line first.
+// What the sizes alone refuse.
+#[tactic(auto, unfolding(crate::specs::Down::down_size_lines, refusal::specs::Table::first, refusal::specs::Table::or_else))]
 fn judge_sizes(
     n: usize,
     cells: usize,
@@ -279,7 +261,7 @@ fn judge_sizes(
     return_columns: usize,
     room: usize,
     scratch: usize,
-) -> Outcome
+) -> Result<(), Refusal>
     ensures { result ≡ first (down_size_lines (record {
       assets = n;
       covariance_cells = cells;
@@ -292,21 +274,25 @@ fn judge_sizes(
       scratch = scratch;
     })) }
 {
-    let other_size = refusal::either(height != n, width != n);
-    let rest = refusal::refuse(other_size, Refusal::DimensionMismatch, Outcome::Done);
-    let rest = refusal::refuse(scratch < lent::LEAST_SCRATCH, Refusal::ShortBuffer, rest);
-    let rest = refusal::refuse(room < n, Refusal::ShortBuffer, rest);
+    refusal::refuse(lent::MOST_ASSETS < n, Refusal::OverLimit)?;
+    refusal::refuse(lent::over_limit(height, width), Refusal::OverLimit)?;
+    refusal::refuse(
+        lent::over_limit(return_rows, return_columns),
+        Refusal::OverLimit,
+    )?;
+    refusal::refuse(
+        lent::has_other_length(cells, height, width),
+        Refusal::SliceLength,
+    )?;
     let ragged = lent::has_other_length(return_cells, return_rows, return_columns);
-    let rest = refusal::refuse(ragged, Refusal::SliceLength, rest);
-    let misfit = lent::has_other_length(cells, height, width);
-    let rest = refusal::refuse(misfit, Refusal::SliceLength, rest);
-    let many = lent::over_limit(return_rows, return_columns);
-    let rest = refusal::refuse(many, Refusal::OverLimit, rest);
-    let rest = refusal::refuse(lent::over_limit(height, width), Refusal::OverLimit, rest);
-    refusal::refuse(lent::MOST_ASSETS < n, Refusal::OverLimit, rest)
+    refusal::refuse(ragged, Refusal::SliceLength)?;
+    refusal::refuse(room < n, Refusal::ShortBuffer)?;
+    refusal::refuse(scratch < lent::LEAST_SCRATCH, Refusal::ShortBuffer)?;
+    refusal::refuse(height != n || width != n, Refusal::DimensionMismatch)
 }
 
-// What the metric, the tree and the cluster count refuse: the last line first.
+// What the metric, the tree and the cluster count refuse.
+#[tactic(auto, unfolding(crate::specs::Down::down_rule_lines, crate::specs::Down::other_rows, crate::specs::Down::metric_tail_lines, refusal::specs::Table::first, refusal::specs::Table::or_else))]
 fn judge_rules(
     metric: Metric,
     given: bool,
@@ -317,7 +303,7 @@ fn judge_rules(
     rows: &[usize],
     n: usize,
     clusters: usize,
-) -> Outcome
+) -> Result<(), Refusal>
     ensures { result ≡ first (down_rule_lines (record {
       metric = metric;
       expected_given = given;
@@ -332,33 +318,31 @@ fn judge_rules(
 {
     let sharpe = is_sharpe(metric);
     let tail = is_tail_risk(metric);
-    let missing = refusal::both(sharpe, !given);
-    let unexpected = refusal::both(sharpe, refusal::both(given, expected != n));
-    let other_rows = refusal::both(tail, refusal::both(0 < return_rows, return_columns != n));
-    let no_rows = refusal::both(tail, return_rows == 0);
-    let no_part = refusal::both(tail, ordering::is_no_part(confidence));
-    let no_count = refusal::either(clusters == 0, n < clusters);
+    refusal::refuse(sharpe && given && expected != n, Refusal::DimensionMismatch)?;
+    let other_rows = tail && 0 < return_rows && return_columns != n;
+    refusal::refuse(other_rows, Refusal::DimensionMismatch)?;
+    refusal::refuse(n == 0, Refusal::NoData)?;
+    refusal::refuse(!tree::is_tree(rows, n), Refusal::NoTree)?;
+    refusal::refuse(sharpe && !given, Refusal::MissingExpectedReturnsForSharpe)?;
+    refusal::refuse(tail && return_rows == 0, Refusal::MissingReturnsForTailRisk)?;
+    refusal::refuse(
+        tail && ordering::is_no_part(confidence),
+        Refusal::ConfidenceOutOfRange,
+    )?;
     let count = Refusal::InvalidNumClusters {
         requested: clusters,
         assets: n,
     };
-    let rest = refusal::refuse(no_count, count, Outcome::Done);
-    let rest = refusal::refuse(no_part, Refusal::ConfidenceOutOfRange, rest);
-    let rest = refusal::refuse(no_rows, Refusal::MissingReturnsForTailRisk, rest);
-    let rest = refusal::refuse(missing, Refusal::MissingExpectedReturnsForSharpe, rest);
-    let rest = refusal::refuse(!tree::is_tree(rows, n), Refusal::NoTree, rest);
-    let rest = refusal::refuse(n == 0, Refusal::NoData, rest);
-    let rest = refusal::refuse(other_rows, Refusal::DimensionMismatch, rest);
-    refusal::refuse(unexpected, Refusal::DimensionMismatch, rest)
+    refusal::refuse(clusters == 0 || n < clusters, count)
 }
 
 // What the recursion refuses leaves nothing of the weights given out before it.
-fn refused(weights: &mut [f64]) -> Answer
-    ensures value { result ≡ answer.Refused NoData }
+fn refused(weights: &mut [f64]) -> Result<Size, Refusal>
+    ensures value { result ≡ Err NoData }
     ensures weights_after { weights.new ≡ zeros (length weights.old) }
 {
     lent::clear(weights);
-    Answer::Refused(Refusal::NoData)
+    Err(Refusal::NoData)
 }
 
 // The weights of n assets, shared out from the last merge row's node down. Scratch is left zero.
@@ -378,7 +362,7 @@ pub fn allocate_down_tree(
     clusters: usize,
     out: &mut [f64],
     scratch: &mut [f64],
-) -> Answer
+) -> Result<Size, Refusal>
     ensures value { result ≡ down_answer
         (record {
           metric = metric;
@@ -420,7 +404,10 @@ pub fn allocate_down_tree(
         out.len(),
         scratch.len(),
     );
-    let rules = judge_rules(
+    lent::clear(out);
+    lent::clear(scratch);
+    sizes?;
+    judge_rules(
         metric,
         expected_given,
         expected.len(),
@@ -430,13 +417,7 @@ pub fn allocate_down_tree(
         rows,
         n,
         clusters,
-    );
-    let said = refusal::and_then(sizes, rules);
-    lent::clear(out);
-    lent::clear(scratch);
-    let Outcome::Done = said else {
-        return lent::answered(said, 1, n);
-    };
+    )?;
     let root = Node(2 * n - 2);
     let mut order = [0usize; 64];
     let mut firsts = [0usize; 127];
@@ -448,7 +429,7 @@ pub fn allocate_down_tree(
         n,
         clusters,
     };
-    if !share(
+    let shared = share(
         metric,
         plan,
         expected,
@@ -462,8 +443,12 @@ pub fn allocate_down_tree(
         1.0,
         &mut out[..n],
         scratch,
-    ) {
+    );
+    if shared.is_err() {
         return refused(out);
     }
-    lent::answered(said, 1, n)
+    Ok(Size {
+        rows: 1,
+        columns: n,
+    })
 }

@@ -2,13 +2,11 @@
 // neither.
 #![tactic(auto)]
 
-use channel::Input;
-
 fn main(rt: HostRuntime) {
     // One byte more than a text may have tells 65,536 from more.
     let mut text = [0u8; 65537];
     let input = channel::read(rt, &mut text);
-    let Input::Text(n) = input else {
+    let Some(n) = input else {
         return;
     };
     let mut out = [0u8; 8192];

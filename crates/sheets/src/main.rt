@@ -3,17 +3,14 @@
 // oracle/sheets.py makes all three from the documents' words.
 #![tactic(auto)]
 
-use channel::Input;
-use listing::Listed;
+use refusal::Refusal;
 
 // What a call made of a text, and the line after it. Answers whether all was taken.
-fn write(rt: HostRuntime, listed: Listed, out: &[u8]) -> bool {
-    let mut digits = [0u8; 20];
-    let rest = recorded::byte_part(out, listing::bytes(listed), out.len());
-    let d = io::decimal(recorded::unclean_bytes(rest) as u64, &mut digits);
+fn write(rt: HostRuntime, listed: Result<usize, Refusal>, out: &[u8]) -> bool {
+    let rest = recorded::past(out, listing::bytes(listed));
     printing::write_listed(rt, listed, out)
-        && channel::write(rt, b"-- ")
-        && channel::write(rt, &digits[..d])
+        && channel::write(rt, b"--")
+        && recorded::write_number(rt, recorded::unclean(rest))
         && channel::write(rt, b"\n")
 }
 
@@ -42,25 +39,14 @@ fn run(rt: HostRuntime, text: &[u8]) -> bool {
 }
 
 // Every text, as long as what is written is taken.
-fn run_all(rt: HostRuntime, text: &[u8]) {
-    let mut at = 0;
-    loop {
-        let e = fields::end_of(text, 0, at);
-        if !run(rt, &text[at..e]) {
+fn run_all(rt: HostRuntime, texts: &[u8]) {
+    for text in texts.split(|byte| *byte == 0) {
+        if !run(rt, text) {
             return;
         }
-        if e == text.len() {
-            return;
-        }
-        at = e + 1;
     }
 }
 
 fn main(rt: HostRuntime) {
-    let mut text = recorded::space();
-    let input = channel::read_all(rt, &mut text);
-    let Input::Text(n) = input else {
-        return;
-    };
-    run_all(rt, recorded::byte_part(&text, 0, n));
+    recorded::with_input(rt, |texts| run_all(rt, texts));
 }

@@ -12,14 +12,14 @@ use lib.ListN.{length, get_or, take, drop, drop_of_length-le}
 use Rattle.text.specs.Bytes.{bytes, same}
 use Rattle.fields.specs.Split.{split, piece, end_of, all}
 use Rattle.fields.specs.Numerals.{is_bits, number}
-use Rattle.fields.specs.declared.Numeral.{Numeral}
-use Rattle.fields.specs.declared.Numeral.TheVariants.{Malformed, Of}
 use Rattle.fields.proofs.Pieces.{pieces, pieces_le, piece_upto, end_le, end_ge, cut_first, last_piece_lem, next_pieces}
 use Rattle.names.specs.Names.{is_name}
-use Rattle.slips.specs.Slips.{is_amount, is_given, is_held, held_in, order_in, refused_in, slip_in, slip_of}
-use Rattle.slips.specs.Inner.{amount_read, names_from, ends_well, holding}
+use Rattle.slips.specs.Slips.{is_amount, is_held, held_in, order_in, refused_in, slip_in, slip_of}
+use Rattle.slips.specs.Inner.{amount_read, names_from, ends_well, is_framed, holding}
 use Rattle.slips.specs.declared.Slip.{Slip}
-use Rattle.slips.specs.declared.Slip.TheVariants.{Other, Held, Order, Refused}
+use Rattle.slips.specs.declared.Slip.TheVariants.{Other, Held, Order}
+use Rattle.std.specs.Prelude.{Some, None}
+use Rattle.fields.specs.Outcomes.{Numeral}
 
 -- ---- fields counted by the tabs between them
 
@@ -101,28 +101,12 @@ module _ (ws : List (List ℕ)) where
   unfolding order_in
   order_no t e h = sym (ap (λ (b : Bool). cond b (Order (length ws - 1)) Other) (sym e ∙ h))
 
-  module _ (n : ℕ) (w : List ℕ) (g t : Bool) (many : n ≡ length ws) (cut : w ≡ get_or ws 1 []) (given : g ≡ is_given w) (test : t ≡ (eqb n 2 && g)) where
-    refused_test : t ≡ (eqb (length ws) 2 && is_given (get_or ws 1 []))
-    refused_test = cc
-
-    pub refused_yes : t ≡ true → Refused ≡ refused_in ws
-    unfolding refused_in
-    refused_yes h = sym (ap (λ (b : Bool). cond b Refused Other) (sym refused_test ∙ h))
-
-    pub refused_no : t ≡ false → Other ≡ refused_in ws
-    unfolding refused_in
-    refused_no h = sym (ap (λ (b : Bool). cond b Refused Other) (sym refused_test ∙ h))
-
-  pub ends_is : (n : ℕ) (w : List ℕ) (a b r : Bool) → n ≡ length ws → w ≡ get_or ws 3 [] → a ≡ is_amount w → b ≡ (eqb n 4 && a) → r ≡ (eqb n 3 || b) → r ≡ ends_well ws
-  unfolding ends_well
-  ends_is n w a b r e f g h k = cc
-
   -- the amount is looked at apart from the others
   held_parts : holding (is_name (get_or ws 0 []) && (is_bits (get_or ws 1 []) && ends_well ws)) (amount_read (get_or ws 2 [])) ≡ held_in ws
   unfolding held_in is_held ends_well amount_read holding
   held_parts = go (is_name (get_or ws 0 [])) (is_bits (get_or ws 1 [])) (is_amount (get_or ws 2 [])) (eqb (length ws) 3 || (eqb (length ws) 4 && is_amount (get_or ws 3 []))) (number 10 0 (get_or ws 2 []))
     where
-      go : (a b m e : Bool) (n : ℕ) → holding (a && (b && e)) (cond m (Of n) Malformed) ≡ cond (a && (b && (m && e))) (Held n) Other
+      go : (a b m e : Bool) (n : ℕ) → holding (a && (b && e)) (cond m (Some n) None) ≡ cond (a && (b && (m && e))) (Held n) Other
       go false b m e n = refl
       go true false m e n = refl
       go true true true true n = refl
@@ -130,25 +114,9 @@ module _ (ws : List (List ℕ)) where
       go true true false true n = refl
       go true true false false n = refl
 
-  pub held_is : (w₀ w₁ w₂ : List ℕ) (a b e : Bool) (m : Numeral) (p q : Bool) (r : Slip)
-      → w₀ ≡ get_or ws 0 [] → a ≡ is_name w₀ → w₁ ≡ get_or ws 1 [] → b ≡ is_bits w₁ → w₂ ≡ get_or ws 2 [] → m ≡ amount_read w₂ → e ≡ ends_well ws
-      → p ≡ (b && e) → q ≡ (a && p) → r ≡ holding q m → r ≡ held_in ws
-  held_is w₀ w₁ w₂ a b e m p q r c₀ n c₁ k c₂ v t f g h =
-      let test : q ≡ (is_name (get_or ws 0 []) && (is_bits (get_or ws 1 []) && ends_well ws)) = cc in
-      let read : m ≡ amount_read (get_or ws 2 []) = cc in
-      h ∙ ap (λ (x : Bool). holding x m) test ∙ ap (λ (x : Numeral). holding (is_name (get_or ws 0 []) && (is_bits (get_or ws 1 []) && ends_well ws)) x) read ∙ held_parts
-
-pub hold_bad : (good : Bool) (n : Numeral) → good ≡ false → Other ≡ holding good n
-unfolding holding
-hold_bad good n e = sym (ap (λ (t : Bool). holding t n) e)
-
-pub hold_none : (good : Bool) (n : Numeral) → good ≡ true → n ≡ Malformed → Other ≡ holding good n
-unfolding holding
-hold_none good n e f = sym (ap (λ (t : Bool). holding t n) e ∙ ap (holding true) f)
-
-pub hold_some : (good : Bool) (n : Numeral) (m : ℕ) → good ≡ true → n ≡ Of m → Held m ≡ holding good n
-unfolding holding
-hold_some good n m e f = sym (ap (λ (t : Bool). holding t n) e ∙ ap (holding true) f)
+  pub held_is : (w : List ℕ) (m : Numeral) (b : Bool) (r : Slip) → w ≡ get_or ws 2 [] → m ≡ amount_read w → b ≡ is_framed ws → r ≡ holding b m → r ≡ held_in ws
+  unfolding is_framed
+  held_is w m b r c v t h = h ∙ ap (λ (x : Bool). holding x m) t ∙ ap (holding (is_framed ws)) (v ∙ ap amount_read c) ∙ held_parts
 
 -- ---- a line
 

@@ -1,9 +1,8 @@
 -- Document 02, request 5: "Input is the concatenated output of `weights`". The lines of a listing, read again. Definitions only.
 use Rattle.std.specs.Prelude.{ℕ, ◌-◌, Bool, not, cond, ◌&&◌, ◌||◌, List, [], ◌∷◌, leb, eqb, length, get_or, drop}
-use Rattle.refusal.specs.Table.{first}
+use Rattle.refusal.specs.Table.{first, Outcome}
 use Rattle.refusal.specs.Telling.{Telling, accepts, refuses}
 use Rattle.refusal.specs.declared.Refusal.TheVariants.{MalformedText}
-use Rattle.refusal.specs.declared.Outcome.{Outcome}
 use Rattle.text.specs.Bytes.{bytes, same}
 use Rattle.fields.specs.Split.{tabulator, split, all}
 use Rattle.fields.specs.Numerals.{is_bits, is_numeral, number}

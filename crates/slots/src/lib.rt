@@ -1,27 +1,21 @@
 // The live slots of the merge step, kept packed in slot order.
 #![tactic(auto)]
 
-ghost use Rattle.std.specs.Prelude.{◌≡◌, min, length, take};
+ghost use Rattle.std.specs.Prelude.{◌≡◌, length, take};
 ghost use Rattle.lent.specs.Grid.{over};
 ghost use Rattle.slots.specs.Slots.{without};
-
-fn smaller(p: usize, q: usize) -> usize
-    ensures { result ≡ min p q }
-{
-    if q < p { q } else { p }
-}
 
 // Slot y leaves the first m places, or all where there are fewer, and those after it move up; behind them the list is as it was.
 pub fn close_gap(slots: &mut [usize], m: usize, y: usize)
     ensures { slots.new ≡ over (without y (take m slots.old)) slots.old }
 {
-    let end = smaller(m, slots.len());
+    let end = m.min(slots.len());
     let mut w = 0usize;
     for j in 0..end {
         let s = slots[j];
         if s != y {
             slots[w] = s;
-            w = w + 1;
+            w += 1;
         }
     }
 }

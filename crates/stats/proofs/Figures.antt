@@ -12,11 +12,10 @@ use Rattle.arithmetic.specs.Root.{isqrt, root}
 use Rattle.refusal.specs.Refusal.{number_of}
 use Rattle.refusal.specs.Table.{first}
 use Rattle.lent.specs.Grid.{tab, grid, sum_to, any_to}
-use Rattle.lent.specs.Lent.{over_limit, other_length, sizes, squares, laid, answer_of}
-use Rattle.lent.specs.declared.Answer.{Answer}
-use Rattle.lent.specs.declared.Answer.TheVariants.{Matrix, Refused}
+use Rattle.lent.specs.Lent.{over_limit, other_length, sizes, squares, laid, answer_of, Answer}
 use Rattle.stats.specs.Covariance.{mean_of, spread, covariance_of, covariance_cell, covariance_table, covariance_outcome, covariance_answer, covariances, shrunk_cell, shrink_outcome, shrink_answer, shrunk, correlation_cell, any_low, correlation_table, correlation_outcome, correlation_answer, correlations}
 use Rattle.stats.specs.Expected.{mean_return, weight_at, exponential_return, expected_outcome, expected_answer, mean_returns, exponential_returns}
+use Rattle.std.specs.Prelude.{Ok, Err}
 
 abbrev all : List Bool → Bool
 all [] = true
@@ -30,8 +29,8 @@ same (x ∷ xs) (y ∷ ys) = eqb x y && same xs ys
 
 -- the rows and columns of an answer, or a refusal's number alone
 abbrev told : Answer → List ℕ
-told (Matrix rows w) = rows ∷ w ∷ []
-told (Refused r) = number_of r ∷ []
+told (Ok s) = s.rows ∷ s.columns ∷ []
+told (Err r) = number_of r ∷ []
 
 -- a call: its answer and its buffer, for a matrix given by its bits
 abbrev call : (List Float → ℕ → ℕ → ℕ → Answer) → (List Float → ℕ → ℕ → ℕ → List Float) → List ℕ → ℕ → ℕ → ℕ → List ℕ

@@ -5,7 +5,7 @@ use mathlib.Core.List.{List}
 use native.Mathlib.Nat.{min_comm, max_comm, min-eq_left, max-eq_right, ne_of_lt}
 use native.Mathlib.Numerals.{add-one}
 use native.Mathlib.Omega.{arith}
-use borrow.Author.Count.{below_none, below_more}
+use borrow.Author.Count.{below_more}
 use borrow.Author.Tests.{ltb-false}
 use lib.Dec.{ltb, eqb}
 use native.Mathlib.Decide.{dec_lt}
@@ -13,28 +13,23 @@ use lib.ListN.{length, get_or, set, replicate}
 use lib.Seq.{get_or-set_same, get_or-set_other}
 use lib.Ieee.{Float, nan, binary64, add, sub, mul, div}
 use Rattle.arithmetic.specs.Constants.{pz, unit, two}
-use Rattle.refusal.specs.Table.{first, or_else}
-use Rattle.refusal.specs.declared.Refusal.{Refusal}
+use Rattle.refusal.specs.Table.{first, or_else, Outcome}
 use Rattle.refusal.specs.declared.Refusal.TheVariants.{NoData, DimensionMismatch, ShortBuffer}
-use Rattle.refusal.specs.declared.Outcome.{Outcome}
-use Rattle.refusal.specs.declared.Outcome.TheVariants.{Done, Refused}
-use Rattle.refusal.proofs.Tables.{table, table_end, none, first_done, first_refused, parts_done}
+use Rattle.refusal.proofs.Tables.{table, table_end, none, first_done, parts_done}
 use Rattle.lent.specs.Grid.{cell}
 use Rattle.lent.specs.Lent.{sizes, squares}
 use Rattle.lent.specs.Inner.{Held}
 use Rattle.lent.proofs.Sums.{sum_start, sum_step}
-use Rattle.lent.proofs.Held.{held_start, held_all}
+use Rattle.lent.proofs.Held.{held_start}
 use Rattle.lent.proofs.Sizes.{sized_done, squared_done}
 use Rattle.stats.specs.Covariance.{mean_of, spread, covariance_of, covariance_cell, covariance_table, covariance_outcome, shrink_outcome, any_low, correlation_table, correlation_outcome}
 use Rattle.stats.specs.Expected.{f501, weight_at, expected_outcome}
 use Rattle.stats.specs.Inner.{Whole, Kept, products_of, Taken}
+use Rattle.std.specs.Prelude.{Ok}
 
 -- ---- entries worked out once and kept
 
 module _ (f : ℕ → Float) where
-  pub kept_none : (m : List Float) → Kept m 0 f
-  kept_none m = record { entry = below_none _ }
-
   pub kept_step : (m : List Float) (v : Float) (k : ℕ) → Kept m k f → v ≡ f k → k < length m → Kept (set m k v) (k + 1) f
   kept_step m v k p e h =
       record {
@@ -70,9 +65,6 @@ module _ (xs : List Float) (w : ℕ) (m : List Float) (i : ℕ) where
   unfolding products_of
   products_term sums x y r j p h e e' = sum_step _ _ _ r (p.entry j (omega arith) h) (rw (e, e'))
 
-  pub products_end : (sums : List Float) (r rows : ℕ) → Held sums i w (products_of xs w m i r) → r ≤ rows → rows ≤ r → Held sums i w (products_of xs w m i rows)
-  products_end sums r rows p h g = held_all (products_of xs w m i) sums i w r rows p h g
-
   -- cell (i, j), from the sums of all rows and the rows above
   pub cell_taken : (v : Float) (sums out : List Float) (rows j : ℕ) → Taken v sums rows w i j out → Held sums i w (products_of xs w m i rows) → Kept m w (mean_of xs rows w) → i < w → j < w
       → (j < i → cell out w j i ≡ covariance_cell xs rows w j i) → v ≡ covariance_cell xs rows w i j
@@ -89,30 +81,18 @@ pub weight_step : (x : Float) (k : ℕ) → x ≡ weight_at k → mul binary64 x
 unfolding weight_at
 weight_step x k e = rw (add-one, e)
 
--- ---- the tables, as the judges go through them: refused by the sizes, or by what comes after them
+-- ---- the tables of a matrix that is not refused for its sizes: the lines that come after them
 
 module _ (xs : List Float) (rows w room : ℕ) where
-  pub covariance_refused : (r : Refusal) → first (sizes (length xs) rows w) ≡ Refused r → covariance_outcome xs rows w room ≡ Refused r
-  unfolding covariance_outcome covariance_table
-  covariance_refused r e = first_refused (sizes (length xs) rows w) _ r e
-
-  pub covariance_sized : first (sizes (length xs) rows w) ≡ Done → covariance_outcome xs rows w room ≡ or_else (ltb room (w * w)) ShortBuffer (or_else (ltb rows 2) NoData Done)
+  pub covariance_sized : first (sizes (length xs) rows w) ≡ Ok tt → covariance_outcome xs rows w room ≡ or_else (ltb room (w * w)) ShortBuffer (or_else (ltb rows 2) NoData (Ok tt))
   unfolding covariance_outcome covariance_table
   covariance_sized e = first_done (sizes (length xs) rows w) _ e ∙ simp (table, table_end)
 
-  pub correlation_refused : (r : Refusal) → first (squares (length xs) rows w room) ≡ Refused r → correlation_outcome xs rows w room ≡ Refused r
-  unfolding correlation_outcome correlation_table
-  correlation_refused r e = first_refused (squares (length xs) rows w room) _ r e
-
-  pub correlation_squared : first (squares (length xs) rows w room) ≡ Done → correlation_outcome xs rows w room ≡ or_else (eqb w 0) DimensionMismatch (or_else (any_low xs w) NoData Done)
+  pub correlation_squared : first (squares (length xs) rows w room) ≡ Ok tt → correlation_outcome xs rows w room ≡ or_else (eqb w 0) DimensionMismatch (or_else (any_low xs w) NoData (Ok tt))
   unfolding correlation_outcome correlation_table
   correlation_squared e = first_done (squares (length xs) rows w room) _ e ∙ simp (table, table_end)
 
-  pub expected_refused : (r : Refusal) → first (sizes (length xs) rows w) ≡ Refused r → expected_outcome xs rows w room ≡ Refused r
-  unfolding expected_outcome
-  expected_refused r e = first_refused (sizes (length xs) rows w) _ r e
-
-  pub expected_sized : first (sizes (length xs) rows w) ≡ Done → expected_outcome xs rows w room ≡ or_else (ltb room w) ShortBuffer Done
+  pub expected_sized : first (sizes (length xs) rows w) ≡ Ok tt → expected_outcome xs rows w room ≡ or_else (ltb room w) ShortBuffer (Ok tt)
   unfolding expected_outcome
   expected_sized e = first_done (sizes (length xs) rows w) _ e ∙ simp (table, table_end)
 
@@ -123,7 +103,7 @@ pub record Sampled (xs : List Float) (rows w room : ℕ) : Type 0 where
   pub some : 2 ≤ rows
   pub roomy : w * w ≤ room
 
-pub covariance_done : (xs : List Float) (rows w room : ℕ) (said : Outcome) → said ≡ covariance_outcome xs rows w room → said ≡ Done → Sampled xs rows w room
+pub covariance_done : (xs : List Float) (rows w room : ℕ) (said : Outcome) → said ≡ covariance_outcome xs rows w room → said ≡ Ok tt → Sampled xs rows w room
 unfolding covariance_outcome covariance_table
 covariance_done xs rows w room said e h =
     let d = parts_done (sizes (length xs) rows w) _ (sym e ∙ h) in
@@ -139,16 +119,16 @@ pub record Square (cov : List Float) (w room : ℕ) : Type 0 where
   pub whole : Whole cov w w
   pub roomy : w * w ≤ room
 
-square_done : (cov : List Float) (rows w room : ℕ) → first (squares (length cov) rows w room) ≡ Done → Square cov w room
+square_done : (cov : List Float) (rows w room : ℕ) → first (squares (length cov) rows w room) ≡ Ok tt → Square cov w room
 square_done cov rows w room e =
     let s = squared_done (length cov) rows w room e in
     record { whole = record { cells = s.cells; wide = s.wide }; roomy = s.roomy }
 
-pub shrink_done : (cov : List Float) (rows w room : ℕ) (said : Outcome) → said ≡ shrink_outcome cov rows w room → said ≡ Done → Square cov w room
+pub shrink_done : (cov : List Float) (rows w room : ℕ) (said : Outcome) → said ≡ shrink_outcome cov rows w room → said ≡ Ok tt → Square cov w room
 unfolding shrink_outcome
 shrink_done cov rows w room said e h = square_done cov rows w room (sym e ∙ h)
 
-pub correlation_done : (cov : List Float) (rows w room : ℕ) (said : Outcome) → said ≡ correlation_outcome cov rows w room → said ≡ Done → Square cov w room
+pub correlation_done : (cov : List Float) (rows w room : ℕ) (said : Outcome) → said ≡ correlation_outcome cov rows w room → said ≡ Ok tt → Square cov w room
 unfolding correlation_outcome correlation_table
 correlation_done cov rows w room said e h = square_done cov rows w room (parts_done (squares (length cov) rows w room) _ (sym e ∙ h)).0
 
@@ -156,7 +136,7 @@ pub record Expecting (xs : List Float) (rows w room : ℕ) : Type 0 where
   pub cells : length xs ≡ rows * w
   pub roomy : w ≤ room
 
-pub expected_done : (xs : List Float) (rows w room : ℕ) (said : Outcome) → said ≡ expected_outcome xs rows w room → said ≡ Done → Expecting xs rows w room
+pub expected_done : (xs : List Float) (rows w room : ℕ) (said : Outcome) → said ≡ expected_outcome xs rows w room → said ≡ Ok tt → Expecting xs rows w room
 unfolding expected_outcome
 expected_done xs rows w room said e h =
     let d = parts_done (sizes (length xs) rows w) _ (sym e ∙ h) in

@@ -5,12 +5,10 @@ use Rattle.std.specs.Float.Ieee.{of_bits, sub, mul, div, le}
 use Rattle.arithmetic.specs.Constants.{pz, unit}
 use Rattle.arithmetic.specs.Arithmetic.{count_of}
 use Rattle.arithmetic.specs.Root.{root}
-use Rattle.refusal.specs.Table.{Line, first}
+use Rattle.refusal.specs.Table.{Line, first, Outcome}
 use Rattle.refusal.specs.declared.Refusal.TheVariants.{NoData, DimensionMismatch, ShortBuffer}
-use Rattle.refusal.specs.declared.Outcome.{Outcome}
 use Rattle.lent.specs.Grid.{cell, grid, sum_to, any_to}
-use Rattle.lent.specs.Lent.{sizes, squares, laid, answer_of}
-use Rattle.lent.specs.declared.Answer.{Answer}
+use Rattle.lent.specs.Lent.{sizes, squares, laid, answer_of, Answer}
 
 -- "Covariance: means first,"
 unfoldable pub mean_of : List Float → ℕ → ℕ → ℕ → Float

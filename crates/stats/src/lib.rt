@@ -1,7 +1,7 @@
 // From returns to covariances, correlations and expected returns. A matrix is a slice of rows times columns doubles.
 #![tactic(auto)]
 
-ghost use Rattle.std.specs.Prelude.{◌≡◌, ◌+◌, ◌*◌, ◌<◌, ◌≤◌, length, set};
+ghost use Rattle.std.specs.Prelude.{◌≡◌, ℕ, ◌+◌, ◌*◌, ◌<◌, ◌≤◌, length, set, Float};
 ghost use Rattle.arithmetic.specs.Root.{root};
 ghost use Rattle.lent.specs.Grid.{cell, tab, grid, over};
 ghost use Rattle.stats.specs.Covariance.{mean_of, covariance_cell, covariance_outcome, covariance_answer, covariances};
@@ -10,8 +10,8 @@ ghost use Rattle.stats.specs.Expected.{mean_return, exponential_return, expected
 ghost use Rattle.lent.specs.Inner.{Held};
 ghost use Rattle.stats.specs.Inner.{Whole, Kept, products_of, Taken};
 
-use lent::Answer;
-use refusal::{Outcome, Refusal};
+use lent::Size;
+use refusal::Refusal;
 
 // Cell (r, c) of a matrix of w columns.
 fn at(xs: &[f64], w: usize, r: usize, c: usize) -> f64
@@ -36,10 +36,8 @@ fn mean(xs: &[f64], rows: usize, w: usize, c: usize) -> f64
     ensures { result ≡ mean_of xs.now rows w c }
 {
     let mut s = 0.0;
-    let mut row = 0;
-    while row < rows {
-        s = s + at(xs, w, row, c);
-        row += 1;
+    for row in 0..rows {
+        s += at(xs, w, row, c);
     }
     s / arithmetic::count(rows)
 }
@@ -50,10 +48,8 @@ fn means(xs: &[f64], rows: usize, w: usize) -> [f64; 64]
     ensures { Kept result w (mean_of xs.now rows w) }
 {
     let mut m = [0.0; 64];
-    let mut c = 0;
-    while c < w {
+    for c in 0..w {
         m[c] = mean(xs, rows, w, c);
-        c += 1;
     }
     m
 }
@@ -75,10 +71,8 @@ fn add_row(
     ensures { Held sums.new i w (products_of xs.now w m.now i (r + 1)) }
 {
     let x = at(xs, w, r, i) - m[i];
-    let mut j = i;
-    while j < w {
-        sums[j] = sums[j] + x * (at(xs, w, r, j) - m[j]);
-        j += 1;
+    for j in i..w {
+        sums[j] += x * (at(xs, w, r, j) - m[j]);
     }
 }
 
@@ -89,10 +83,8 @@ fn sums_of(xs: &[f64], rows: usize, w: usize, m: &[f64; 64], i: usize) -> [f64; 
     ensures { Held result i w (products_of xs.now w m.now i rows) }
 {
     let mut sums = [0.0; 64];
-    let mut r = 0;
-    while r < rows {
+    for r in 0..rows {
         add_row(xs, rows, w, m, i, r, &mut sums);
-        r += 1;
     }
     sums
 }
@@ -123,11 +115,9 @@ fn covariance_row(xs: &[f64], rows: usize, w: usize, m: &[f64; 64], i: usize, ou
     ensures { out.new ≡ over (grid (i + 1) w (covariance_cell xs.now rows w)) out.old }
 {
     let sums = sums_of(xs, rows, w, m, i);
-    let mut j = 0;
-    while j < w {
+    for j in 0..w {
         let v = covariance_cell(&sums, rows, w, i, j, &out[..]);
         put(out, w, i, j, v);
-        j += 1;
     }
 }
 
@@ -138,37 +128,54 @@ fn covariance_rows(xs: &[f64], rows: usize, w: usize, m: &[f64; 64], out: &mut [
     requires w_in_bounds { w * w ≤ length out.old }
     ensures { out.new ≡ over (grid w w (covariance_cell xs.now rows w)) out.old }
 {
-    let mut i = 0;
-    while i < w {
+    for i in 0..w {
         covariance_row(xs, rows, w, m, i, out);
-        i += 1;
     }
 }
 
-fn judge_covariance(xs: &[f64], rows: usize, w: usize, room: usize) -> Outcome
+#[tactic(auto, using(refusal::proofs::Tables::first_append), unfolding(crate::specs::Covariance::covariance_outcome, crate::specs::Covariance::covariance_table, refusal::specs::Table::first, refusal::specs::Table::and_then, refusal::specs::Table::or_else))]
+fn judge_covariance(xs: &[f64], rows: usize, w: usize, room: usize) -> Result<(), Refusal>
     ensures { result ≡ covariance_outcome xs.now rows w room }
 {
-    let said = lent::sized(xs.len(), rows, w);
-    let Outcome::Done = said else {
-        return said;
-    };
-    let rest = refusal::refuse(rows < 2, Refusal::NoData, Outcome::Done);
-    refusal::refuse(room < w * w, Refusal::ShortBuffer, rest)
+    lent::sized(xs.len(), rows, w)?;
+    refusal::refuse(room < w * w, Refusal::ShortBuffer)?;
+    refusal::refuse(rows < 2, Refusal::NoData)
 }
 
 // The covariance of the columns of a matrix of returns.
-pub fn covariance(returns: &[f64], rows: usize, columns: usize, out: &mut [f64]) -> Answer
+#[tactic(auto, using(crate::proofs::Laws::covariance_done, lent::proofs::Laws::over_replicate), unfolding(crate::specs::Covariance::covariance_answer, crate::specs::Covariance::covariances, lent::specs::Lent::answer_of, lent::specs::Lent::laid))]
+pub fn covariance(
+    returns: &[f64],
+    rows: usize,
+    columns: usize,
+    out: &mut [f64],
+) -> Result<Size, Refusal>
     ensures value { result ≡ covariance_answer returns.now rows columns (length out.old) }
     ensures out_after { out.new ≡ covariances returns.now rows columns (length out.old) }
 {
     let said = judge_covariance(returns, rows, columns, out.len());
     lent::clear(out);
-    let Outcome::Done = said else {
-        return lent::answered(said, columns, columns);
-    };
+    said?;
     let m = means(returns, rows, columns);
     covariance_rows(returns, rows, columns, &m, out);
-    lent::answered(said, columns, columns)
+    Ok(Size {
+        rows: columns,
+        columns,
+    })
+}
+
+// What f gives at each cell of n rows and columns is stored, over the front of out.
+fn fill_cells<F: Fn(usize, usize) -> f64>(n: usize, out: &mut [f64], f: F)
+    requires n_in_bounds { n * n ≤ length out.old }
+    requires callable { (i : ℕ) (j : ℕ) → i < n → j < n → F.pre f i j }
+    ensures { (g : ℕ → ℕ → Float) → ((i : ℕ) (j : ℕ) (v : Float) → i < n → j < n → F.post f i j v → v ≡ g i j)
+        → out.new ≡ over (grid n n g) out.old }
+{
+    for i in 0..n {
+        for j in 0..n {
+            put(out, n, i, j, f(i, j));
+        }
+    }
 }
 
 // Off the diagonal, times 1.0 - 0.1.
@@ -185,45 +192,25 @@ fn shrunk_cell(cov: &[f64], n: usize, i: usize, j: usize) -> f64
     x * (1.0 - 0.1)
 }
 
-fn shrunk_row(cov: &[f64], n: usize, i: usize, out: &mut [f64])
-    requires whole { Whole cov.now n n }
-    requires i_lt_n { i < n }
-    requires n_in_bounds { n * n ≤ length out.old }
-    requires out_value { over (grid i n (shrunk_cell cov.now n)) out.old ≡ out.old }
-    ensures { out.new ≡ over (grid (i + 1) n (shrunk_cell cov.now n)) out.old }
-{
-    let mut j = 0;
-    while j < n {
-        let v = shrunk_cell(cov, n, i, j);
-        put(out, n, i, j, v);
-        j += 1;
-    }
-}
-
-fn shrunk_rows(cov: &[f64], n: usize, out: &mut [f64])
-    requires whole { Whole cov.now n n }
-    requires n_in_bounds { n * n ≤ length out.old }
-    ensures { out.new ≡ over (grid n n (shrunk_cell cov.now n)) out.old }
-{
-    let mut i = 0;
-    while i < n {
-        shrunk_row(cov, n, i, out);
-        i += 1;
-    }
-}
-
 // A covariance with its off-diagonal shrunk.
-pub fn shrink_covariance(cov: &[f64], rows: usize, columns: usize, out: &mut [f64]) -> Answer
+#[tactic(auto, using(crate::proofs::Laws::shrink_done, lent::proofs::Laws::over_replicate), unfolding(crate::specs::Covariance::shrink_outcome, crate::specs::Covariance::shrink_answer, crate::specs::Covariance::shrunk, lent::specs::Lent::answer_of, lent::specs::Lent::laid))]
+pub fn shrink_covariance(
+    cov: &[f64],
+    rows: usize,
+    columns: usize,
+    out: &mut [f64],
+) -> Result<Size, Refusal>
     ensures value { result ≡ shrink_answer cov.now rows columns (length out.old) }
     ensures out_after { out.new ≡ shrunk cov.now rows columns (length out.old) }
 {
     let said = lent::squared(cov.len(), rows, columns, out.len());
     lent::clear(out);
-    let Outcome::Done = said else {
-        return lent::answered(said, columns, columns);
-    };
-    shrunk_rows(cov, columns, out);
-    lent::answered(said, columns, columns)
+    said?;
+    fill_cells(columns, out, |i, j| shrunk_cell(cov, columns, i, j));
+    Ok(Size {
+        rows: columns,
+        columns,
+    })
 }
 
 // Some variance is at most 0; a NaN isn't.
@@ -231,12 +218,10 @@ fn any_low(cov: &[f64], n: usize) -> bool
     requires { length cov.now ≡ n * n }
     ensures { result ≡ any_low cov.now n }
 {
-    let mut i = 0;
-    while i < n {
+    for i in 0..n {
         if at(cov, n, i, i) <= 0.0 {
             return true;
         }
-        i += 1;
     }
     false
 }
@@ -247,10 +232,8 @@ fn roots(cov: &[f64], n: usize) -> [f64; 64]
     ensures { Kept result n (λ i. root (cell cov.now n i i)) }
 {
     let mut std = [0.0; 64];
-    let mut i = 0;
-    while i < n {
+    for i in 0..n {
         std[i] = arithmetic::sqrt(at(cov, n, i, i));
-        i += 1;
     }
     std
 }
@@ -265,69 +248,54 @@ fn correlation_cell(cov: &[f64], n: usize, std: &[f64; 64], i: usize, j: usize) 
     at(cov, n, i, j) / (std[i] * std[j])
 }
 
-fn correlation_row(cov: &[f64], n: usize, std: &[f64; 64], i: usize, out: &mut [f64])
-    requires whole { Whole cov.now n n }
-    requires kept { Kept std.now n (λ k. root (cell cov.now n k k)) }
-    requires i_lt_n { i < n }
-    requires n_in_bounds { n * n ≤ length out.old }
-    requires out_value { over (grid i n (correlation_cell cov.now n)) out.old ≡ out.old }
-    ensures { out.new ≡ over (grid (i + 1) n (correlation_cell cov.now n)) out.old }
-{
-    let mut j = 0;
-    while j < n {
-        let v = correlation_cell(cov, n, std, i, j);
-        put(out, n, i, j, v);
-        j += 1;
-    }
-}
-
-fn correlation_rows(cov: &[f64], n: usize, std: &[f64; 64], out: &mut [f64])
-    requires whole { Whole cov.now n n }
-    requires kept { Kept std.now n (λ k. root (cell cov.now n k k)) }
-    requires n_in_bounds { n * n ≤ length out.old }
-    ensures { out.new ≡ over (grid n n (correlation_cell cov.now n)) out.old }
-{
-    let mut i = 0;
-    while i < n {
-        correlation_row(cov, n, std, i, out);
-        i += 1;
-    }
-}
-
-fn judge_correlation(cov: &[f64], rows: usize, w: usize, room: usize) -> Outcome
+#[tactic(auto, using(lent::proofs::Sizes::squared_done, refusal::proofs::Tables::first_append), unfolding(crate::specs::Covariance::correlation_outcome, crate::specs::Covariance::correlation_table, refusal::specs::Table::first, refusal::specs::Table::and_then, refusal::specs::Table::or_else))]
+fn judge_correlation(cov: &[f64], rows: usize, w: usize, room: usize) -> Result<(), Refusal>
     ensures { result ≡ correlation_outcome cov.now rows w room }
 {
-    let said = lent::squared(cov.len(), rows, w, room);
-    let Outcome::Done = said else {
-        return said;
-    };
-    let rest = refusal::refuse(any_low(cov, w), Refusal::NoData, Outcome::Done);
-    refusal::refuse(w == 0, Refusal::DimensionMismatch, rest)
+    lent::squared(cov.len(), rows, w, room)?;
+    refusal::refuse(w == 0, Refusal::DimensionMismatch)?;
+    refusal::refuse(any_low(cov, w), Refusal::NoData)
 }
 
 // The correlations of a covariance.
-pub fn cov2corr(cov: &[f64], rows: usize, columns: usize, out: &mut [f64]) -> Answer
+#[tactic(auto, using(crate::proofs::Laws::correlation_done, lent::proofs::Laws::over_replicate), unfolding(crate::specs::Covariance::correlation_answer, crate::specs::Covariance::correlations, lent::specs::Lent::answer_of, lent::specs::Lent::laid))]
+pub fn cov2corr(cov: &[f64], rows: usize, columns: usize, out: &mut [f64]) -> Result<Size, Refusal>
     ensures value { result ≡ correlation_answer cov.now rows columns (length out.old) }
     ensures out_after { out.new ≡ correlations cov.now rows columns (length out.old) }
 {
     let said = judge_correlation(cov, rows, columns, out.len());
     lent::clear(out);
-    let Outcome::Done = said else {
-        return lent::answered(said, columns, columns);
-    };
+    said?;
     let std = roots(cov, columns);
-    correlation_rows(cov, columns, &std, out);
-    lent::answered(said, columns, columns)
+    fill_cells(
+        columns,
+        out,
+        |i, j| correlation_cell(cov, columns, &std, i, j),
+    );
+    Ok(Size {
+        rows: columns,
+        columns,
+    })
 }
 
-fn judge_expected(xs: &[f64], rows: usize, w: usize, room: usize) -> Outcome
+#[tactic(auto, using(refusal::proofs::Tables::first_append), unfolding(crate::specs::Expected::expected_outcome, refusal::specs::Table::first, refusal::specs::Table::and_then, refusal::specs::Table::or_else))]
+fn judge_expected(xs: &[f64], rows: usize, w: usize, room: usize) -> Result<(), Refusal>
     ensures { result ≡ expected_outcome xs.now rows w room }
 {
-    let said = lent::sized(xs.len(), rows, w);
-    let Outcome::Done = said else {
-        return said;
-    };
-    refusal::refuse(room < w, Refusal::ShortBuffer, Outcome::Done)
+    lent::sized(xs.len(), rows, w)?;
+    refusal::refuse(room < w, Refusal::ShortBuffer)
+}
+
+// What f gives at each column is stored, over the front of out.
+fn fill_with<F: Fn(usize) -> f64>(w: usize, out: &mut [f64], f: F)
+    requires w_in_bounds { w ≤ length out.old }
+    requires callable { (c : ℕ) → c < w → F.pre f c }
+    ensures { (g : ℕ → Float) → ((c : ℕ) (v : Float) → c < w → F.post f c v → v ≡ g c)
+        → out.new ≡ over (tab w g) out.old }
+{
+    for c in 0..w {
+        out[c] = arithmetic::settled(f(c));
+    }
 }
 
 // The mean of column c, times 252.
@@ -342,35 +310,22 @@ fn mean_return(xs: &[f64], rows: usize, w: usize, c: usize) -> f64
     mean(xs, rows, w, c) * 252.0
 }
 
-fn mean_returns(xs: &[f64], rows: usize, w: usize, out: &mut [f64])
-    requires xs_len { length xs.now ≡ rows * w }
-    requires w_in_bounds { w ≤ length out.old }
-    ensures { out.new ≡ over (tab w (mean_return xs.now rows w)) out.old }
-{
-    let mut c = 0;
-    while c < w {
-        out[c] = arithmetic::settled(mean_return(xs, rows, w, c));
-        c += 1;
-    }
-}
-
 // The expected return of each column, as the mean over a year.
+#[tactic(auto, using(crate::proofs::Laws::expected_done, lent::proofs::Laws::over_replicate), unfolding(crate::specs::Expected::expected_answer, crate::specs::Expected::mean_returns, lent::specs::Lent::answer_of, lent::specs::Lent::laid))]
 pub fn mean_expected_returns(
     returns: &[f64],
     rows: usize,
     columns: usize,
     out: &mut [f64],
-) -> Answer
+) -> Result<Size, Refusal>
     ensures value { result ≡ expected_answer returns.now rows columns (length out.old) }
     ensures out_after { out.new ≡ mean_returns returns.now rows columns (length out.old) }
 {
     let said = judge_expected(returns, rows, columns, out.len());
     lent::clear(out);
-    let Outcome::Done = said else {
-        return lent::answered(said, 1, columns);
-    };
-    mean_returns(returns, rows, columns, out);
-    lent::answered(said, 1, columns)
+    said?;
+    fill_with(columns, out, |c| mean_return(returns, rows, columns, c));
+    Ok(Size { rows: 1, columns })
 }
 
 // The weighted mean of column c, newest row first, times 252.
@@ -386,43 +341,32 @@ fn exponential_return(xs: &[f64], rows: usize, w: usize, c: usize) -> f64
     let mut weight = 1.0;
     let mut num = 0.0;
     let mut denom = 0.0;
-    let mut k = 0;
-    while k < rows {
-        num = num + weight * at(xs, w, rows - 1 - k, c);
-        denom = denom + weight;
-        weight = weight * (1.0 - alpha);
-        k += 1;
+    for k in 0..rows {
+        num += weight * at(xs, w, rows - 1 - k, c);
+        denom += weight;
+        weight *= 1.0 - alpha;
     }
     num / denom * 252.0
 }
 
-fn exponential_returns(xs: &[f64], rows: usize, w: usize, out: &mut [f64])
-    requires xs_len { length xs.now ≡ rows * w }
-    requires w_in_bounds { w ≤ length out.old }
-    ensures { out.new ≡ over (tab w (exponential_return xs.now rows w)) out.old }
-{
-    let mut c = 0;
-    while c < w {
-        out[c] = arithmetic::settled(exponential_return(xs, rows, w, c));
-        c += 1;
-    }
-}
-
 // The same with each older row counting less.
+#[tactic(auto, using(crate::proofs::Laws::expected_done, lent::proofs::Laws::over_replicate), unfolding(crate::specs::Expected::expected_answer, crate::specs::Expected::exponential_returns, lent::specs::Lent::answer_of, lent::specs::Lent::laid))]
 pub fn exponential_expected_returns(
     returns: &[f64],
     rows: usize,
     columns: usize,
     out: &mut [f64],
-) -> Answer
+) -> Result<Size, Refusal>
     ensures value { result ≡ expected_answer returns.now rows columns (length out.old) }
     ensures out_after { out.new ≡ exponential_returns returns.now rows columns (length out.old) }
 {
     let said = judge_expected(returns, rows, columns, out.len());
     lent::clear(out);
-    let Outcome::Done = said else {
-        return lent::answered(said, 1, columns);
-    };
-    exponential_returns(returns, rows, columns, out);
-    lent::answered(said, 1, columns)
+    said?;
+    fill_with(
+        columns,
+        out,
+        |c| exponential_return(returns, rows, columns, c),
+    );
+    Ok(Size { rows: 1, columns })
 }

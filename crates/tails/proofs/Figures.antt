@@ -12,11 +12,11 @@ use Rattle.refusal.specs.Table.{first}
 use Rattle.lent.specs.Grid.{tab, sum_to, any_to}
 use Rattle.lent.specs.Lent.{over_limit, other_length}
 use Rattle.clusters.specs.Clusters.{recip, recip_sum, shares, outside, any_listed_low, size_table}
-use Rattle.clusters.specs.declared.Risk.{Risk}
-use Rattle.clusters.specs.declared.Risk.TheVariants as risk
 use Rattle.ordering.specs.Order.{sorted, insert_all, insert, before, has_minus}
 use Rattle.arithmetic.specs.Arithmetic.{count_of}
 use Rattle.ordering.specs.Nearest.{whole_of, place, quantile, no_part}
+use Rattle.std.specs.Prelude.{Ok, Err}
+use Rattle.clusters.specs.Outcomes.{Risk}
 
 abbrev series : ℕ → Float
 series = row_return (map (of_bits binary64)
@@ -71,12 +71,12 @@ unsure returns return_rows room = record {
 }
 
 abbrev gives : Risk → ℕ → Bool
-gives (risk.Of x) b = eqb (to_bits binary64 x) b
-gives (risk.Refused r) b = false
+gives (Ok x) b = eqb (to_bits binary64 x) b
+gives (Err r) b = false
 
 abbrev refuses : Risk → ℕ → Bool
-refuses (risk.Of x) k = false
-refuses (risk.Refused r) k = eqb (number_of r) k
+refuses (Ok x) k = false
+refuses (Err r) k = eqb (number_of r) k
 
 -- at 0.5 the expected shortfall of asset 0 alone is 3, and of asset 1 alone 1; of both, a half each, 2. The drawdowns of asset 0 are 0, 3 and 5: their tail's mean is 4.
 -- No rows are 16, before the confidence NaN is 17; a buffer of 2 for two rows is 11, before both.

@@ -1,28 +1,19 @@
 -- The steps of the loops, in the shape of the needs. Assumes nothing.
-use Prim.Native.Nat.{ℕ, ◌+◌, ◌*◌, ◌<◌, ◌≤◌}
+use Prim.Native.Nat.{ℕ, ◌+◌, ◌≤◌}
 use mathlib.Core.Path.{◌≡◌, refl, sym, ap, ◌∙◌}
 use mathlib.Core.Bool.{Bool, true, false, cond}
 use mathlib.Core.List.{List}
 use native.Mathlib.Nat.{le_antisymm}
 use native.Mathlib.Numerals.{add-one}
 use native.Mathlib.Omega.{arith}
-use borrow.Author.Tests.{eq-eqb, ne_eqb}
-use lib.IntN.{pos}
-use lib.ListN.{length, get_or, set}
-use lib.Ieee.{Float, binary64, add, sub, mul, div, neg, of_int, le}
+use lib.ListN.{length, set}
+use lib.Ieee.{Float, binary64, add, sub, mul, neg, le}
 use Rattle.lent.specs.Grid.{tab, over}
-use Rattle.lent.proofs.Laws.{cell_in, length_tab, over_all_lem}
+use Rattle.lent.proofs.Laws.{length_tab, over_all_lem}
 use Rattle.lent.proofs.Fill.{tab_step}
 use Rattle.ordering.specs.Nearest.{quantile}
 use Rattle.arithmetic.specs.Constants.{pz, unit}
-use Rattle.arithmetic.specs.Arithmetic.{count_of}
-use Rattle.tails.specs.Inner.{HeldRows}
 use Rattle.tails.specs.Tail.{tail_sum, tail_count, mean, shortfall, wealth, higher, peak, fall, drawdown, conditional_drawdown}
-
--- a cell of an asset listed
-pub held_cell : {returns : List Float} {rows n : ℕ} {assets : List ℕ} {w : List Float} → HeldRows returns rows n assets w → (r k : ℕ) → r < rows → k < length assets
-    → r * n + get_or assets k 0 < length returns
-held_cell {returns} {rows} {n} {assets} p r k hr hk = cell_in returns rows n r (get_or assets k 0) p.cells hr (p.each k hk)
 
 -- ---- a list that is filled from the front, and full
 
@@ -42,33 +33,39 @@ module _ (d l : List Float) (f : ℕ → Float) where
 
 -- ---- the tail
 
+-- s and c are the sum and the number of the entries among f 0, .., f (k - 1) that pass p
+pub record Tailed (p : Float → Bool) (f : ℕ → Float) (s : Float) (c k : ℕ) : Type 0 where
+  pub sum : s ≡ tail_sum p k f
+  pub count : c ≡ tail_count p k f
+  pub few : c ≤ k
+
 module _ (p : Float → Bool) (f : ℕ → Float) where
-  pub sum_none : pz ≡ tail_sum p 0 f
+  pub tail_start : Tailed p f pz 0 0
+  unfolding tail_sum tail_count
+  tail_start = record { sum = refl; count = refl; few = omega arith }
+
+  sum_more : (k : ℕ) → tail_sum p (k + 1) f ≡ cond (p (f k)) (add binary64 (tail_sum p k f) (f k)) (tail_sum p k f)
   unfolding tail_sum
-  sum_none = refl
+  sum_more k = rw (add-one k)
 
-  pub count_none : 0 ≡ tail_count p 0 f
+  count_more : (k : ℕ) → tail_count p (k + 1) f ≡ cond (p (f k)) (tail_count p k f + 1) (tail_count p k f)
   unfolding tail_count
-  count_none = refl
+  count_more k = rw (add-one k)
 
-  pub sum_next : (s t x : Float) (k : ℕ) → s ≡ tail_sum p k f → x ≡ f k → t ≡ cond (p x) (add binary64 s x) s → t ≡ tail_sum p (k + 1) f
-  unfolding tail_sum
-  sum_next s t x k e h g = rw (add-one, g, h, e)
+  module _ (s t x : Float) (c d k : ℕ) (h : Tailed p f s c k) (e : x ≡ f k) where
+    pub tail_hit : p x ≡ true → t ≡ add binary64 s x → d ≡ c + 1 → Tailed p f t d (k + 1)
+    tail_hit q u v = record {
+      sum = rw (sum_more k, ← e, q, ← h.sum) u;
+      count = rw (count_more k, ← e, q, ← h.count) v;
+      few = let g = h.few in omega arith;
+    }
 
-  pub count_next : (c d : ℕ) (x : Float) (k : ℕ) → c ≡ tail_count p k f → x ≡ f k → d ≡ cond (p x) (c + 1) c → d ≡ tail_count p (k + 1) f
-  unfolding tail_count
-  count_next c d x k e h g = rw (add-one, g, h, e)
-
-  pub sum_all : (s : Float) (k n : ℕ) → s ≡ tail_sum p k f → k ≤ n → n ≤ k → s ≡ tail_sum p n f
-  sum_all s k n e h g = e ∙ ap (λ (m : ℕ). tail_sum p m f) (le_antisymm h g)
-
-  pub count_all_lem : (c : ℕ) (k n : ℕ) → c ≡ tail_count p k f → k ≤ n → n ≤ k → c ≡ tail_count p n f
-  count_all_lem c k n e h g = e ∙ ap (λ (m : ℕ). tail_count p m f) (le_antisymm h g)
-
--- a count grows by one at most
-pub count_bound : (b : Bool) (c d k : ℕ) → d ≡ cond b (c + 1) c → c ≤ k → d ≤ k + 1
-count_bound true c d k e h = omega arith
-count_bound false c d k e h = omega arith
+    pub tail_miss : p x ≡ false → t ≡ s → d ≡ c → Tailed p f t d (k + 1)
+    tail_miss q u v = record {
+      sum = rw (sum_more k, ← e, q, ← h.sum) u;
+      count = rw (count_more k, ← e, q, ← h.count) v;
+      few = let g = h.few in omega arith;
+    }
 
 -- ---- the course of wealth
 
@@ -84,16 +81,6 @@ module _ (f : ℕ → Float) where
   pub drawdown_at : (p v d : Float) (k : ℕ) → p ≡ peak f k → v ≡ wealth f k → d ≡ fall p v → d ≡ drawdown f k
   unfolding drawdown
   drawdown_at p v d k e h g = rw (g, e, h)
-
--- ---- the mean
-
-pub mean_none : (s : Float) (c : ℕ) → c ≡ 0 → pz ≡ mean s c
-unfolding mean
-mean_none s c e = rw (eq-eqb c 0 e)
-
-pub mean_some : (s : Float) (c : ℕ) → (c ≡ 0 → ⊥) → div binary64 s (of_int binary64 (pos c)) ≡ mean s c
-unfolding mean count_of
-mean_some s c e = rw (ne_eqb c 0 e)
 
 -- ---- the two measures, from their steps
 

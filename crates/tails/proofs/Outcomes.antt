@@ -2,7 +2,7 @@
 use Prim.Native.Nat.{ℕ, ◌+◌, ◌*◌}
 use mathlib.Core.Path.{◌≡◌, refl, sym, ap, ◌∙◌}
 use mathlib.Core.Bool.{Bool, true, false, not, ◌&&◌}
-use mathlib.Core.List.{List, [], ◌∷◌, ◌++◌, append_assoc}
+use mathlib.Core.List.{List, ◌++◌, append_assoc}
 use native.Mathlib.Omega.{arith}
 use borrow.Author.Tests.{ltb-false, leb-false, lt-ltb, eqb-true, eqb-false}
 use native.Mathlib.Numerals.{add-one}
@@ -10,52 +10,35 @@ use lib.Dec.{ltb, leb, eqb, leb-suc-suc}
 use lib.ListN.{length, take}
 use lib.Seq.{take_at}
 use lib.Ieee.{Float}
-use Rattle.refusal.specs.Table.{Line, first, or_else, and_then}
+use Rattle.refusal.specs.Table.{Line, first, and_then, Outcome}
 use Rattle.refusal.specs.declared.Refusal.{Refusal}
-use Rattle.refusal.specs.declared.Outcome.{Outcome}
-use Rattle.refusal.specs.declared.Outcome.TheVariants.{Done, Refused}
 use Rattle.refusal.proofs.Tables.{table_pass, table_end, none, both_done, then_done, then_refused, first_append, first_done}
 use Rattle.lent.specs.Lent.{laid, told_of}
-use Rattle.lent.specs.declared.Answer.{Answer}
+use Rattle.lent.specs.declared.Size.{Size}
 use Rattle.lent.proofs.Sums.{any_no}
 use Rattle.lent.proofs.Sizes.{within_limit, same_length, told_as}
 use Rattle.ordering.proofs.Parts.{part_of_lem}
 use Rattle.clusters.specs.Clusters.{nth, shares, outside, low_lines, size_table, risk_table, shares_outcome, shares_answer, shares_laid, risk_of}
-use Rattle.clusters.specs.declared.Risk.{Risk}
-use Rattle.clusters.specs.declared.Risk.TheVariants as risk
 use Rattle.clusters.proofs.Laws.{length_shares}
 use Rattle.tails.specs.Tail.{row_return, shortfall, conditional_drawdown, shortfall_of, drawdown_of}
 use Rattle.tails.specs.Measures.{MeasureCall, measure_size_lines, measure_shape_lines, tail_lines, measure_outcome, shortfall_answer, drawdown_answer}
-use Rattle.tails.specs.Inner.{TailReady}
-
--- two lines that are told apart and then joined
-pub two_lines : (s t : Bool) (a b : Refusal) → and_then (or_else s a Done) (or_else t b Done) ≡ first ((s, a) ∷ (t, b) ∷ [])
-unfolding and_then or_else first
-two_lines true t a b = refl
-two_lines false true a b = refl
-two_lines false false a b = refl
+use Rattle.tails.specs.Inner.{TailReady, measure_number, measure_answer}
+use Rattle.tails.specs.declared.Measure.{Measure}
+use Rattle.tails.specs.declared.Measure.TheVariants.{Shortfall, Drawdown}
+use Rattle.std.specs.Prelude.{Ok, Err}
+use Rattle.clusters.specs.Outcomes.{Risk}
 
 -- the test for 11 as the code has it, with no sum
 pub short_series : (room h : ℕ) → leb room h ≡ ltb room (h + 1)
 short_series room h = rw add-one (sym (leb-suc-suc room h))
 
--- a measure that was worked out, and stored
-pub risk_done : (said : Outcome) (v x y : Float) → said ≡ Done → v ≡ x → x ≡ y → risk.Of v ≡ risk_of said y
-risk_done said v x y d e h = rw (d, e, h)
-
 -- ---- three stages
 
-then_then : (a b c : Outcome) → and_then a (and_then b c) ≡ and_then (and_then a b) c
-unfolding and_then
-then_then Done b c = refl
-then_then (Refused r) b c = refl
-
-staged : (a b c d : List Line) → first (a ++ (b ++ (c ++ d))) ≡ and_then (and_then (first a) (first (b ++ c))) (first d)
+staged : (a b c d : List Line) → first (a ++ (b ++ (c ++ d))) ≡ and_then (first a) (and_then (first (b ++ c)) (first d))
 staged a b c d =
     first_append a (b ++ (c ++ d))
     ∙ ap (λ (l : List Line). and_then (first a) (first l)) (sym (append_assoc b c d))
     ∙ ap (and_then (first a)) (first_append (b ++ c) d)
-    ∙ then_then (first a) (first (b ++ c)) (first d)
 
 -- a test of two, of which the first holds
 other_no : (b c : Bool) → (b && not c) ≡ false → b ≡ true → c ≡ true
@@ -63,31 +46,30 @@ other_no b true e h = refl
 other_no b false e h = sym (rw h at e)
 
 -- the number of a call that was refused does not matter
-same_risk : (o : Outcome) (x y : Float) → (o ≡ Done → x ≡ y) → risk_of o x ≡ risk_of o y
-same_risk Done x y f = let e = f refl in cc
-same_risk (Refused r) x y f = refl
+same_risk : (o : Outcome) (x y : Float) → (o ≡ Ok tt → x ≡ y) → risk_of o x ≡ risk_of o y
+same_risk (Ok _) x y f = let e = f refl in cc
+same_risk (Err r) x y f = refl
 
 module _ (m : MeasureCall) where
-  -- what `judge_sizes` and `judge_shape` say together
-  pub record Judged (said sizes shape : Outcome) : Type 0 where
-    pub of_sizes : sizes ≡ first (measure_size_lines m)
-    pub of_shape : shape ≡ first (measure_shape_lines m ++ tail_lines true m.return_rows m.confidence)
-    pub of_both : said ≡ and_then sizes shape
-
-  whole : {said sizes shape : Outcome} → Judged said sizes shape → measure_outcome m ≡ and_then said (first (low_lines m.covariance m.covariance_columns m.assets))
+  stages : measure_outcome m
+      ≡ and_then (first (measure_size_lines m))
+      (and_then (first (measure_shape_lines m ++ tail_lines true m.return_rows m.confidence))
+      (first (low_lines m.covariance m.covariance_columns m.assets)))
   unfolding measure_outcome
-  whole {said} {sizes} {shape} j =
-      let a = j.of_sizes in
-      let b = j.of_shape in
-      let c = j.of_both in
-      staged (measure_size_lines m) (measure_shape_lines m) (tail_lines true m.return_rows m.confidence) (low_lines m.covariance m.covariance_columns m.assets) ∙ rw (c, a, b)
+  stages =
+      staged (measure_size_lines m) (measure_shape_lines m) (tail_lines true m.return_rows m.confidence)
+      (low_lines m.covariance m.covariance_columns m.assets)
 
-  pub stays_refused : {said sizes shape : Outcome} → Judged said sizes shape → (r : Refusal) → said ≡ Refused r → Refused r ≡ measure_outcome m
-  stays_refused j r e = sym (whole j ∙ then_refused _ _ r e)
+  pub sizes_refused : (r : Refusal) → first (measure_size_lines m) ≡ Err r → measure_outcome m ≡ Err r
+  sizes_refused r e = stages ∙ then_refused _ _ r e
+
+  pub shape_refused : (r : Refusal) → first (measure_size_lines m) ≡ Ok tt
+      → first (measure_shape_lines m ++ tail_lines true m.return_rows m.confidence) ≡ Err r → measure_outcome m ≡ Err r
+  shape_refused r s e = stages ∙ then_done _ _ s ∙ then_refused _ _ r e
 
   -- ---- a call whose first two stages are done
 
-  module _ (s : first (measure_size_lines m) ≡ Done) (t : first (measure_shape_lines m ++ tail_lines true m.return_rows m.confidence) ≡ Done) where
+  module _ (s : first (measure_size_lines m) ≡ Ok tt) (t : first (measure_shape_lines m ++ tail_lines true m.return_rows m.confidence) ≡ Ok tt) where
     -- the weights are refused as the third stage is
     shares_low : (room : ℕ) → room ≡ 64 → shares_outcome m.covariance m.covariance_rows m.covariance_columns m.assets room ≡ first (low_lines m.covariance m.covariance_columns m.assets)
     unfolding measure_size_lines size_table measure_shape_lines shares_outcome risk_table
@@ -121,40 +103,52 @@ module _ (m : MeasureCall) where
           roomy = ltb-false m.room (m.return_rows + 1) a.1.1.1.1.1.0;
         }
 
-  -- ---- what `weigh` answers, and what it leaves in a buffer of 64
+    -- ---- what `weigh` answers, and what it leaves in a buffer of 64
 
-  pub weighed : {said sizes shape : Outcome} → Judged said sizes shape → said ≡ Done → (room : ℕ) → room ≡ 64 → (o : Answer) (out : List Float) (r : Outcome)
-      → o ≡ shares_answer m.covariance m.covariance_rows m.covariance_columns m.assets room
-      → out ≡ shares_laid m.covariance m.covariance_rows m.covariance_columns m.assets room → r ≡ told_of o
-      → (r ≡ measure_outcome m) × (r ≡ Done → take (length m.assets) out ≡ shares m.covariance m.covariance_columns m.assets)
-  unfolding shares_answer shares_laid laid
-  weighed {said} {sizes} {shape} j d room e o out r a b c =
-      let p = both_done sizes shape (sym j.of_both ∙ d) in
-      let x : r ≡ shares_outcome m.covariance m.covariance_rows m.covariance_columns m.assets room = c ∙ ap told_of a ∙ told_as _ _ _ in (
-        x ∙ shares_low (sym j.of_sizes ∙ p.0) (sym j.of_shape ∙ p.1) room e ∙ sym (whole j ∙ then_done _ _ d),
-        λ g. rw (b, sym x ∙ g) (take_at (shares m.covariance m.covariance_columns m.assets) _ _ (length_shares m.covariance m.covariance_columns m.assets)),
-      )
+    module _ (room : ℕ) (e : room ≡ 64) where
+      as_shares : measure_outcome m ≡ told_of (shares_answer m.covariance m.covariance_rows m.covariance_columns m.assets room)
+      unfolding shares_answer
+      as_shares = stages ∙ then_done _ _ s ∙ then_done _ _ t ∙ sym (told_as _ _ _ ∙ shares_low room e)
+
+      pub low_refused : (r : Refusal) → shares_answer m.covariance m.covariance_rows m.covariance_columns m.assets room ≡ Err r → measure_outcome m ≡ Err r
+      unfolding told_of
+      low_refused r h = as_shares ∙ ap told_of h
+
+      pub weighed : (o : Size) → shares_answer m.covariance m.covariance_rows m.covariance_columns m.assets room ≡ Ok o → measure_outcome m ≡ Ok tt
+      unfolding told_of
+      weighed o h = as_shares ∙ ap told_of h
+
+      pub weights_first : (o : Size) → shares_answer m.covariance m.covariance_rows m.covariance_columns m.assets room ≡ Ok o → (out : List Float)
+          → out ≡ shares_laid m.covariance m.covariance_rows m.covariance_columns m.assets room → take (length m.assets) out ≡ shares m.covariance m.covariance_columns m.assets
+      unfolding shares_answer shares_laid laid told_of
+      weights_first o h out b =
+          let d : shares_outcome m.covariance m.covariance_rows m.covariance_columns m.assets room ≡ Ok tt = sym (told_as _ _ _) ∙ ap told_of h in
+          rw (b, d) (take_at (shares m.covariance m.covariance_columns m.assets) _ _ (length_shares m.covariance m.covariance_columns m.assets))
 
   -- ---- what the measures are given, and what they answer, of what `weigh` said and left
 
-  module _ (said : Outcome) (w : List Float) (e : said ≡ measure_outcome m) (f : said ≡ Done → take (length m.assets) w ≡ shares m.covariance m.covariance_columns m.assets) where
-    pub ready : length w ≡ 64 → said ≡ Done → TailReady m.returns m.return_rows m.covariance_columns m.assets w m.confidence m.room
+  module _ (said : Outcome) (w : List Float) (e : said ≡ measure_outcome m) (f : said ≡ Ok tt → take (length m.assets) w ≡ shares m.covariance m.covariance_columns m.assets) where
+    pub ready : length w ≡ 64 → said ≡ Ok tt → TailReady m.returns m.return_rows m.covariance_columns m.assets w m.confidence m.room
     unfolding measure_outcome
     ready k d =
-        let p = both_done _ _ (sym (staged (measure_size_lines m) (measure_shape_lines m) (tail_lines true m.return_rows m.confidence) (low_lines m.covariance m.covariance_columns m.assets)) ∙ sym e ∙ d) in
-        let q = both_done _ _ p.0 in
-        ready_of q.0 q.1 w (f d) k
+        let p = both_done _ _ (sym stages ∙ sym e ∙ d) in
+        ready_of p.0 (both_done _ _ p.1).0 w (f d) k
 
-    pub shortfall_answered : (r : Risk) → r ≡ risk_of said (shortfall m.return_rows (row_return m.returns m.covariance_columns m.assets (take (length m.assets) w)) m.confidence)
+    shortfall_answered : (r : Risk) → r ≡ risk_of said (shortfall m.return_rows (row_return m.returns m.covariance_columns m.assets (take (length m.assets) w)) m.confidence)
         → r ≡ shortfall_answer m
     unfolding shortfall_answer shortfall_of
     shortfall_answered r g =
         g ∙ same_risk said _ _ (λ d. ap (λ (t : List Float). shortfall m.return_rows (row_return m.returns m.covariance_columns m.assets t) m.confidence) (f d))
         ∙ ap (λ (o : Outcome). risk_of o (shortfall m.return_rows (row_return m.returns m.covariance_columns m.assets (shares m.covariance m.covariance_columns m.assets)) m.confidence)) e
 
-    pub drawdown_answered : (r : Risk) → r ≡ risk_of said (conditional_drawdown m.return_rows (row_return m.returns m.covariance_columns m.assets (take (length m.assets) w)) m.confidence)
+    drawdown_answered : (r : Risk) → r ≡ risk_of said (conditional_drawdown m.return_rows (row_return m.returns m.covariance_columns m.assets (take (length m.assets) w)) m.confidence)
         → r ≡ drawdown_answer m
     unfolding drawdown_answer drawdown_of
     drawdown_answered r g =
         g ∙ same_risk said _ _ (λ d. ap (λ (t : List Float). conditional_drawdown m.return_rows (row_return m.returns m.covariance_columns m.assets t) m.confidence) (f d))
         ∙ ap (λ (o : Outcome). risk_of o (conditional_drawdown m.return_rows (row_return m.returns m.covariance_columns m.assets (shares m.covariance m.covariance_columns m.assets)) m.confidence)) e
+
+    pub measure_answered : (k : Measure) (r : Risk) → r ≡ risk_of said (measure_number k m.return_rows (row_return m.returns m.covariance_columns m.assets (take (length m.assets) w)) m.confidence)
+        → r ≡ measure_answer k m
+    measure_answered Shortfall r g = shortfall_answered r g
+    measure_answered Drawdown r g = drawdown_answered r g

@@ -1,13 +1,12 @@
 -- What `cluster_expected_shortfall` and `cluster_conditional_drawdown` answer: assets of a covariance of w columns, and rows of returns of c columns. Definitions only.
 use Rattle.std.specs.Prelude.{ℕ, ◌+◌, Bool, true, not, ◌&&◌, List, [], ◌∷◌, ◌++◌, ltb, eqb, length, Float}
-use Rattle.refusal.specs.Table.{Line, first}
+use Rattle.refusal.specs.Table.{Line, first, Outcome}
 use Rattle.refusal.specs.declared.Refusal.TheVariants.{DimensionMismatch, OverLimit, SliceLength, ShortBuffer, MissingReturnsForTailRisk, ConfidenceOutOfRange}
-use Rattle.refusal.specs.declared.Outcome.{Outcome}
 use Rattle.lent.specs.Lent.{over_limit, other_length}
 use Rattle.ordering.specs.Nearest.{no_part}
 use Rattle.clusters.specs.Clusters.{recip_sum, outside, outside_line, any_listed_low, low_lines, size_table, not_square, risk_of}
-use Rattle.clusters.specs.declared.Risk.{Risk}
 use Rattle.tails.specs.Tail.{shortfall_of, drawdown_of}
+use Rattle.clusters.specs.Outcomes.{Risk}
 
 -- the call: rows of returns, a covariance, the assets listed, the confidence, and how long a buffer is lent for the series
 pub record MeasureCall : Type 0 where

@@ -1,28 +1,31 @@
 // The two tail-risk measures of a list of assets, weighed by inverse variance: document 02, request 1.
 #![tactic(auto)]
 
-ghost use Rattle.std.specs.Prelude.{◌≡◌, true, cond, ◌++◌, ◌+◌, ◌*◌, ◌<◌, ◌≤◌, length, take};
-ghost use Rattle.std.specs.Float.{binary64};
-ghost use Rattle.std.specs.Float.Ieee.{add, le};
+ghost use Rattle.std.specs.Prelude.{◌≡◌, true, ◌++◌, ◌+◌, ◌*◌, ◌<◌, ◌≤◌, length, take, Ok};
+ghost use Rattle.std.specs.Float.Ieee.{le};
 ghost use Rattle.refusal.specs.Table.{first};
-ghost use Rattle.refusal.specs.declared.Outcome.TheVariants.{Done};
 ghost use Rattle.lent.specs.Grid.{cell, tab, zeros};
-ghost use Rattle.clusters.specs.Clusters.{shares, risk_of};
+ghost use Rattle.clusters.specs.Clusters.{shares};
 ghost use Rattle.ordering.specs.Nearest.{quantile};
 ghost use Rattle.ordering.specs.Inner.{Part};
 ghost use Rattle.tails.specs.Tail.{row_return, tail_sum, tail_count, mean, shortfall, higher, fall, drawdown, conditional_drawdown};
-ghost use Rattle.tails.specs.Inner.{HeldRows, TailReady, measure_call};
+ghost use Rattle.tails.specs.Inner.{HeldRows, TailReady, measure_call, measure_number, measure_answer};
 ghost use Rattle.tails.specs.Measures.{measure_size_lines, measure_shape_lines, tail_lines, measure_outcome, shortfall_answer, drawdown_answer};
 
-use clusters::Risk;
-use ordering::Entry;
-use refusal::{Outcome, Refusal};
+use refusal::Refusal;
 
 // A sum and the number of its terms.
 #[derive(Clone, Copy)]
 struct Tail {
     sum: f64,
     count: usize,
+}
+
+// Which of the two measures.
+#[derive(Clone, Copy)]
+enum Measure {
+    Shortfall,
+    Drawdown,
 }
 
 // Cell (r, c) of a matrix of w columns.
@@ -39,10 +42,7 @@ fn limit_of(xs: &mut [f64], q: f64) -> f64
     requires xs_len_bound { length xs.old ≤ 4097 }
     ensures { result ≡ quantile q xs.old }
 {
-    match ordering::quantile(xs, q) {
-        Entry::Of(x) => x,
-        Entry::Refused(_) => 0.0,
-    }
+    ordering::quantile(xs, q).unwrap()
 }
 
 // Row r's return.
@@ -52,11 +52,8 @@ fn row_return(returns: &[f64], rows: usize, n: usize, assets: &[usize], w: &[f64
     ensures { result ≡ row_return returns.now n assets.now w.now r }
 {
     let mut v = 0.0;
-    let mut k = 0;
-    while k < assets.len() {
-        let a = assets[k];
-        v = v + at(returns, n, r, a) * w[k];
-        k += 1;
+    for (k, &a) in assets.iter().enumerate() {
+        v += at(returns, n, r, a) * w[k];
     }
     v
 }
@@ -73,15 +70,13 @@ fn fill_returns(
     requires out_len { length out.old ≡ rows }
     ensures { out.new ≡ tab rows (row_return returns.now n assets.now w.now) }
 {
-    let mut r = 0;
-    while r < rows {
-        let v = row_return(returns, rows, n, assets, w, r);
-        out[r] = v;
-        r += 1;
+    for r in 0..rows {
+        out[r] = row_return(returns, rows, n, assets, w, r);
     }
 }
 
 // s over c, and 0 where c is 0.
+#[tactic(auto, unfolding(crate::specs::Tail::mean, arithmetic::specs::Arithmetic::count_of))]
 fn mean_of(s: f64, c: usize) -> f64
     requires { c ≤ 4097 }
     ensures { result ≡ mean s c }
@@ -90,26 +85,6 @@ fn mean_of(s: f64, c: usize) -> f64
         return 0.0;
     }
     s / c as f64
-}
-
-// v is added to s where hit.
-fn add_if(hit: bool, s: f64, v: f64) -> f64
-    ensures { result ≡ cond hit (add binary64 s v) s }
-{
-    if hit {
-        return s + v;
-    }
-    s
-}
-
-fn count_if(hit: bool, c: usize) -> usize
-    requires { c ≤ 4097 }
-    ensures { result ≡ cond hit (c + 1) c }
-{
-    if hit {
-        return c + 1;
-    }
-    c
 }
 
 // The returns at or below a limit.
@@ -126,17 +101,16 @@ fn tail_below(
     ensures count_value { result.count ≡ tail_count (λ x. le x limit) rows (row_return returns.now n assets.now w.now) }
     ensures count_le_rows { result.count ≤ rows }
 {
-    let mut s = 0.0;
-    let mut c: usize = 0;
-    let mut r = 0;
-    while r < rows {
+    let mut sum = 0.0;
+    let mut count: usize = 0;
+    for r in 0..rows {
         let v = row_return(returns, rows, n, assets, w, r);
-        let hit = v <= limit;
-        s = add_if(hit, s, v);
-        c = count_if(hit, c);
-        r += 1;
+        if v <= limit {
+            sum += v;
+            count += 1;
+        }
     }
-    Tail { sum: s, count: c }
+    Tail { sum, count }
 }
 
 // Minus the mean of the returns at or below their quantile at q.
@@ -157,11 +131,10 @@ fn expected_shortfall(
     fill_returns(returns, rows, n, assets, w, room);
     let limit = limit_of(room, q);
     let t = tail_below(returns, rows, n, assets, w, limit);
-    let s = t.sum;
-    let c = t.count;
-    mean_of(-s, c)
+    mean_of(-t.sum, t.count)
 }
 
+#[tactic(auto, unfolding(crate::specs::Tail::higher))]
 fn higher_of(p: f64, v: f64) -> f64
     ensures { result ≡ higher p v }
 {
@@ -171,6 +144,7 @@ fn higher_of(p: f64, v: f64) -> f64
     p
 }
 
+#[tactic(auto, unfolding(crate::specs::Tail::fall))]
 fn fall_of(p: f64, v: f64) -> f64
     ensures { result ≡ fall p v }
 {
@@ -194,12 +168,10 @@ fn fill_drawdowns(
 {
     let mut v = 1.0;
     let mut p = 1.0;
-    let mut r = 0;
-    while r < rows {
+    for r in 0..rows {
         out[r] = fall_of(p, v);
-        v = v * (1.0 + row_return(returns, rows, n, assets, w, r));
+        v *= 1.0 + row_return(returns, rows, n, assets, w, r);
         p = higher_of(p, v);
-        r += 1;
     }
     out[rows] = fall_of(p, v);
 }
@@ -222,19 +194,22 @@ fn tail_above(
     let mut p = 1.0;
     let start = fall_of(p, v);
     let hit_start = limit <= start;
-    let mut s = add_if(hit_start, 0.0, start);
-    let mut c = count_if(hit_start, 0);
-    let mut r = 0;
-    while r < rows {
-        v = v * (1.0 + row_return(returns, rows, n, assets, w, r));
+    let mut sum = 0.0;
+    let mut count: usize = 0;
+    if hit_start {
+        sum += start;
+        count += 1;
+    }
+    for r in 0..rows {
+        v *= 1.0 + row_return(returns, rows, n, assets, w, r);
         p = higher_of(p, v);
         let d = fall_of(p, v);
-        let hit = limit <= d;
-        s = add_if(hit, s, d);
-        c = count_if(hit, c);
-        r += 1;
+        if limit <= d {
+            sum += d;
+            count += 1;
+        }
     }
-    Tail { sum: s, count: c }
+    Tail { sum, count }
 }
 
 // The mean of the drawdowns at or above their quantile at 1 − q, the start counted.
@@ -259,6 +234,7 @@ fn conditional_drawdown(
 }
 
 // 9, 10 and 11: of both matrices, of the list of assets, of the buffer for the series. No cell is read before they are known.
+#[tactic(auto, using(crate::proofs::Outcomes::short_series), unfolding(crate::specs::Measures::measure_size_lines, clusters::specs::Clusters::size_table, refusal::specs::Table::first, refusal::specs::Table::or_else))]
 fn judge_sizes(
     returns: &[f64],
     return_rows: usize,
@@ -269,54 +245,43 @@ fn judge_sizes(
     assets: &[usize],
     confidence: f64,
     room: usize,
-) -> Outcome
+) -> Result<(), Refusal>
     ensures { result ≡ first (measure_size_lines
         (measure_call returns.now return_rows return_columns
         covariance.now rows columns assets.now confidence room)) }
 {
-    // the same as room < return_rows + 1, which could overflow
-    let series = refusal::refuse(room <= return_rows, Refusal::ShortBuffer, Outcome::Done);
-    let cells = refusal::refuse(
-        lent::has_other_length(returns.len(), return_rows, return_columns),
-        Refusal::SliceLength,
-        series,
-    );
-    let squares = refusal::refuse(
-        lent::has_other_length(covariance.len(), rows, columns),
-        Refusal::SliceLength,
-        cells,
-    );
-    let list = refusal::refuse(
-        lent::MOST_ASSETS < assets.len(),
-        Refusal::OverLimit,
-        squares,
-    );
-    let square = refusal::refuse(lent::over_limit(rows, columns), Refusal::OverLimit, list);
     refusal::refuse(
         lent::over_limit(return_rows, return_columns),
         Refusal::OverLimit,
-        square,
-    )
+    )?;
+    refusal::refuse(lent::over_limit(rows, columns), Refusal::OverLimit)?;
+    refusal::refuse(lent::MOST_ASSETS < assets.len(), Refusal::OverLimit)?;
+    refusal::refuse(
+        lent::has_other_length(covariance.len(), rows, columns),
+        Refusal::SliceLength,
+    )?;
+    refusal::refuse(
+        lent::has_other_length(returns.len(), return_rows, return_columns),
+        Refusal::SliceLength,
+    )?;
+    // the same as room < return_rows + 1, which could overflow
+    refusal::refuse(room <= return_rows, Refusal::ShortBuffer)
 }
 
 // 16, then 17.
-fn judge_tail(return_rows: usize, confidence: f64) -> Outcome
+#[tactic(auto, unfolding(refusal::specs::Table::first, refusal::specs::Table::or_else))]
+fn judge_tail(return_rows: usize, confidence: f64) -> Result<(), Refusal>
     ensures { result ≡ first (tail_lines true return_rows confidence) }
 {
-    let no_rows = refusal::refuse(
-        return_rows == 0,
-        Refusal::MissingReturnsForTailRisk,
-        Outcome::Done,
-    );
-    let no_part = refusal::refuse(
+    refusal::refuse(return_rows == 0, Refusal::MissingReturnsForTailRisk)?;
+    refusal::refuse(
         ordering::is_no_part(confidence),
         Refusal::ConfidenceOutOfRange,
-        Outcome::Done,
-    );
-    refusal::and_then(no_rows, no_part)
+    )
 }
 
 // The 3s, 14, then what the tail needs.
+#[tactic(auto, unfolding(crate::specs::Measures::measure_shape_lines, refusal::specs::Table::first, refusal::specs::Table::or_else))]
 fn judge_shape(
     returns: &[f64],
     return_rows: usize,
@@ -327,20 +292,19 @@ fn judge_shape(
     assets: &[usize],
     confidence: f64,
     room: usize,
-) -> Outcome
+) -> Result<(), Refusal>
     ensures { result ≡ first (measure_shape_lines
         (measure_call returns.now return_rows return_columns
         covariance.now rows columns assets.now confidence room)
         ++ tail_lines true return_rows confidence) }
 {
-    let inside = refusal::refuse(
-        clusters::any_outside(columns, assets),
-        Refusal::NoTree,
-        judge_tail(return_rows, confidence),
-    );
-    let is_other = refusal::both(0 < return_rows, return_columns != columns);
-    let wide = refusal::refuse(is_other, Refusal::DimensionMismatch, inside);
-    refusal::refuse(rows != columns, Refusal::DimensionMismatch, wide)
+    refusal::refuse(rows != columns, Refusal::DimensionMismatch)?;
+    refusal::refuse(
+        refusal::both(0 < return_rows, return_columns != columns),
+        Refusal::DimensionMismatch,
+    )?;
+    refusal::refuse(clusters::any_outside(columns, assets), Refusal::NoTree)?;
+    judge_tail(return_rows, confidence)
 }
 
 // The refusal of the call, if there is one, and the weights at the front of w.
@@ -355,12 +319,12 @@ fn weigh(
     confidence: f64,
     room: usize,
     w: &mut [f64],
-) -> Outcome
+) -> Result<(), Refusal>
     requires { length w.old ≡ 64 }
     ensures value { result ≡ measure_outcome (measure_call returns.now return_rows return_columns covariance.now rows columns assets.now confidence room) }
-    ensures w_after { result ≡ Done → take (length assets.now) w.new ≡ shares covariance.now columns assets.now }
+    ensures w_after { result ≡ Ok tt → take (length assets.now) w.new ≡ shares covariance.now columns assets.now }
 {
-    let sizes = judge_sizes(
+    judge_sizes(
         returns,
         return_rows,
         return_columns,
@@ -370,8 +334,8 @@ fn weigh(
         assets,
         confidence,
         room,
-    );
-    let shape = judge_shape(
+    )?;
+    judge_shape(
         returns,
         return_rows,
         return_columns,
@@ -381,67 +345,134 @@ fn weigh(
         assets,
         confidence,
         room,
+    )?;
+    clusters::inverse_variance_weights(covariance, rows, columns, assets, w)?;
+    Ok(())
+}
+
+// The measure of the rows. The room has an entry for each row, and one for the start.
+fn measure_of(
+    measure: Measure,
+    returns: &[f64],
+    rows: usize,
+    n: usize,
+    assets: &[usize],
+    w: &[f64],
+    q: f64,
+    room: &mut [f64],
+) -> f64
+    requires held_rows { HeldRows returns.now rows n assets.now w.now }
+    requires room_len { length room.old ≡ rows + 1 }
+    requires part { Part q }
+    ensures { result ≡ measure_number measure rows (row_return returns.now n assets.now w.now) q }
+{
+    match measure {
+        Measure::Shortfall => expected_shortfall(returns, rows, n, assets, w, q, &mut room[..rows]),
+        Measure::Drawdown => conditional_drawdown(returns, rows, n, assets, w, q, room),
+    }
+}
+
+// The measure of a call that was not refused, with the weights at the front of w.
+fn measure_after(
+    measure: Measure,
+    returns: &[f64],
+    rows: usize,
+    n: usize,
+    assets: &[usize],
+    w: &[f64],
+    q: f64,
+    series: &mut [f64],
+) -> f64
+    requires { TailReady returns.now rows n assets.now w.now q (length series.old) }
+    ensures { result ≡ measure_number measure rows (row_return returns.now n assets.now (take (length assets.now) w.now)) q }
+{
+    let k = assets.len();
+    let m = rows + 1;
+    let v = measure_of(
+        measure,
+        returns,
+        rows,
+        n,
+        assets,
+        &w[..k],
+        q,
+        &mut series[..m],
     );
-    let said = refusal::and_then(sizes, shape);
-    let Outcome::Done = said else {
-        return said;
-    };
-    lent::told(clusters::inverse_variance_weights(covariance, rows, columns, assets, w))
+    arithmetic::settled(v)
 }
 
-// The measure of a call that was not refused.
-fn shortfall_after(
-    said: Outcome,
+// Either measure of a call, or its refusal. It works in the series.
+fn measure_in(
+    measure: Measure,
     returns: &[f64],
+    return_rows: usize,
+    return_columns: usize,
+    covariance: &[f64],
     rows: usize,
-    n: usize,
+    columns: usize,
     assets: &[usize],
-    w: &[f64],
-    q: f64,
+    confidence: f64,
     series: &mut [f64],
-) -> Risk
-    requires { said ≡ Done → TailReady returns.now rows n assets.now w.now q (length series.old) }
-    ensures { result ≡ risk_of said (shortfall rows (row_return returns.now n assets.now (take (length assets.now) w.now)) q) }
+) -> Result<f64, Refusal>
+    ensures { result ≡ measure_answer measure
+        (measure_call returns.now return_rows return_columns
+        covariance.now rows columns assets.now confidence (length series.old)) }
 {
-    match said {
-        Outcome::Refused(r) => Risk::Refused(r),
-        Outcome::Done => {
-            let k = assets.len();
-            let v = expected_shortfall(returns, rows, n, assets, &w[..k], q, &mut series[..rows]);
-            Risk::Of(arithmetic::settled(v))
-        }
-    }
+    let mut w = [0.0; 64];
+    weigh(
+        returns,
+        return_rows,
+        return_columns,
+        covariance,
+        rows,
+        columns,
+        assets,
+        confidence,
+        series.len(),
+        &mut w,
+    )?;
+    Ok(measure_after(
+        measure,
+        returns,
+        return_rows,
+        columns,
+        assets,
+        &w,
+        confidence,
+        series,
+    ))
 }
 
-fn drawdown_after(
-    said: Outcome,
+// Either measure of a call, whichever way it goes. The series is left zero.
+fn measured(
+    measure: Measure,
     returns: &[f64],
+    return_rows: usize,
+    return_columns: usize,
+    covariance: &[f64],
     rows: usize,
-    n: usize,
+    columns: usize,
     assets: &[usize],
-    w: &[f64],
-    q: f64,
+    confidence: f64,
     series: &mut [f64],
-) -> Risk
-    requires { said ≡ Done → TailReady returns.now rows n assets.now w.now q (length series.old) }
-    ensures { result ≡ risk_of said (conditional_drawdown rows (row_return returns.now n assets.now (take (length assets.now) w.now)) q) }
-{
-    match said {
-        Outcome::Refused(r) => Risk::Refused(r),
-        Outcome::Done => {
-            let k = assets.len();
-            let m = rows + 1;
-            let v = conditional_drawdown(returns, rows, n, assets, &w[..k], q, &mut series[..m]);
-            Risk::Of(arithmetic::settled(v))
-        }
-    }
-}
-
-// What a call ends with, whichever way it went.
-fn ended(risk: Risk, series: &mut [f64]) -> Risk
-    ensures value { result ≡ risk }
+) -> Result<f64, Refusal>
+    ensures value { result ≡ measure_answer measure
+        (measure_call returns.now return_rows return_columns
+        covariance.now rows columns assets.now confidence (length series.old)) }
     ensures series_after { series.new ≡ zeros (length series.old) }
 {
+    let risk = measure_in(
+        measure,
+        returns,
+        return_rows,
+        return_columns,
+        covariance,
+        rows,
+        columns,
+        assets,
+        confidence,
+        series,
+    );
     lent::clear(series);
     risk
 }
@@ -457,7 +488,7 @@ pub fn cluster_expected_shortfall(
     assets: &[usize],
     confidence: f64,
     series: &mut [f64],
-) -> Risk
+) -> Result<f64, Refusal>
     ensures value { result ≡ shortfall_answer
         (record {
           returns = returns.now;
@@ -472,8 +503,8 @@ pub fn cluster_expected_shortfall(
         }) }
     ensures series_after { series.new ≡ zeros (length series.old) }
 {
-    let mut w = [0.0; 64];
-    let said = weigh(
+    measured(
+        Measure::Shortfall,
         returns,
         return_rows,
         return_columns,
@@ -482,20 +513,8 @@ pub fn cluster_expected_shortfall(
         columns,
         assets,
         confidence,
-        series.len(),
-        &mut w,
-    );
-    let risk = shortfall_after(
-        said,
-        returns,
-        return_rows,
-        columns,
-        assets,
-        &w,
-        confidence,
         series,
-    );
-    ended(risk, series)
+    )
 }
 
 // The mean of the portfolio's drawdowns, the start counted, at or above their quantile at 1 − the confidence. The series is left zero.
@@ -509,7 +528,7 @@ pub fn cluster_conditional_drawdown(
     assets: &[usize],
     confidence: f64,
     series: &mut [f64],
-) -> Risk
+) -> Result<f64, Refusal>
     ensures value { result ≡ drawdown_answer
         (record {
           returns = returns.now;
@@ -524,8 +543,8 @@ pub fn cluster_conditional_drawdown(
         }) }
     ensures series_after { series.new ≡ zeros (length series.old) }
 {
-    let mut w = [0.0; 64];
-    let said = weigh(
+    measured(
+        Measure::Drawdown,
         returns,
         return_rows,
         return_columns,
@@ -534,18 +553,6 @@ pub fn cluster_conditional_drawdown(
         columns,
         assets,
         confidence,
-        series.len(),
-        &mut w,
-    );
-    let risk = drawdown_after(
-        said,
-        returns,
-        return_rows,
-        columns,
-        assets,
-        &w,
-        confidence,
         series,
-    );
-    ended(risk, series)
+    )
 }

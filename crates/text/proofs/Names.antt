@@ -1,30 +1,27 @@
--- The laws of the same bytes and of names, as a loop over two texts needs them. Assumes nothing.
-use Prim.Native.Nat.{ℕ, zero, suc, ◌+◌, ◌<◌, ◌≤◌}
+-- The laws of the same bytes and of names, as std's `==` and `all` answer them. Assumes nothing.
+use Prim.Native.Nat.{ℕ, suc}
 use mathlib.Core.Path.{◌≡◌, refl, ap}
 use mathlib.Core.Bool.{Bool, true, false, ◌&&◌, and-false}
 use mathlib.Core.List.{List, [], ◌∷◌}
-use native.Mathlib.Nat.{not-suc-le-zero, le_of_suc-le-suc}
-use native.Mathlib.Numerals.{add-one}
 use native.Mathlib.Omega.{arith}
-use borrow.Author.Tests.{eq-eqb, ne_eqb, eqb-true}
+use borrow.Author.Tests.{eq-eqb, eqb-true}
 use lib.Dec.{eqb}
-use lib.ListN.{length, get_or, drop, drop_of_length-le}
-use lib.Seq.{drop-cons}
+use lib.ListN.{length}
+use lib.Pointwise.{pointwise}
+use Rattle.std.specs.Char.{to_ascii_lowercase}
+use Rattle.std.specs.List.{zip, list_all}
+use Rattle.std.proofs.lemmas.Bool.Decides.{nat_tests}
 use Rattle.text.specs.Bytes.{same, lower, lowered}
 
--- ---- the same bytes: from place i on
+-- ---- the same bytes
 
-pub same_yes : (a b : List ℕ) (i : ℕ) → i < length a → i < length b → get_or a i 0 ≡ get_or b i 0 → same (drop i a) (drop i b) ≡ same (drop (i + 1) a) (drop (i + 1) b)
+-- what `==` of two slices answers
+pub pointwise_same : (a b : List ℕ) → pointwise eqb a b ≡ same a b
 unfolding same
-same_yes a b i h g e = rw (add-one, drop-cons a i 0 h, drop-cons b i 0 g, eq-eqb (get_or a i 0) (get_or b i 0) e)
-
-pub same_no : (a b : List ℕ) (i : ℕ) → i < length a → i < length b → (get_or a i 0 ≡ get_or b i 0 → ⊥) → same (drop i a) (drop i b) ≡ false
-unfolding same
-same_no a b i h g n = rw (drop-cons a i 0 h, drop-cons b i 0 g, ne_eqb (get_or a i 0) (get_or b i 0) n)
-
-pub same_end : (a b : List ℕ) (i : ℕ) → length a ≤ i → length b ≤ i → same (drop i a) (drop i b) ≡ true
-unfolding same
-same_end a b i h g = rw (drop_of_length-le a h, drop_of_length-le b g)
+pointwise_same [] [] = refl
+pointwise_same [] (y ∷ b) = refl
+pointwise_same (x ∷ a) [] = refl
+pointwise_same (x ∷ a) (y ∷ b) = ap (λ (t : Bool). eqb x y && t) (pointwise_same a b)
 
 pub same_length : (a b : List ℕ) → (length a ≡ length b → ⊥) → same a b ≡ false
 unfolding same
@@ -62,8 +59,14 @@ unfolding lowered
 length_lowered [] = refl
 length_lowered (b ∷ w) = ap suc (length_lowered w)
 
-pub get_d_lowered : (w : List ℕ) (i : ℕ) → i < length w → get_or (lowered w) i 0 ≡ lower (get_or w i 0)
-unfolding lowered
-get_d_lowered [] i h = absurd (not-suc-le-zero h)
-get_d_lowered (b ∷ w) zero h = refl
-get_d_lowered (b ∷ w) (suc i) h = get_d_lowered w i (le_of_suc-le-suc h)
+pub lowercase_lower : (b : ℕ) → to_ascii_lowercase b ≡ lower b
+unfolding lower
+lowercase_lower b = grind (arith, nat_tests)
+
+-- a name and a word of one length, byte by byte
+pub pairs_same : (name word : List ℕ) → length name ≡ length word → list_all (λ (p : ℕ × ℕ). eqb (to_ascii_lowercase p.0) p.1) (zip name word) ≡ same (lowered name) word
+unfolding same lowered
+pairs_same [] [] e = refl
+pairs_same [] (y ∷ word) e = absurd (omega arith)
+pairs_same (x ∷ name) [] e = absurd (omega arith)
+pairs_same (x ∷ name) (y ∷ word) e = rw lowercase_lower (ap (λ (t : Bool). eqb (lower x) y && t) (pairs_same name word (omega arith)))

@@ -1,15 +1,22 @@
 -- The tally of a list while it is made: what is counted, and what is left of the list, make the count. Assumes nothing.
 use mathlib.Core.Path.{◌≡◌, refl, sym, ◌∙◌}
 use mathlib.Core.Logic.{⊎_elim}
+use mathlib.Core.Bool.{Bool, true, false}
 use mathlib.Core.List.{List}
-use Prim.Native.Nat.{ℕ, ◌+◌, ◌≤◌, ◌<◌}
+use Prim.Native.Nat.{ℕ, ◌+◌, ◌≤◌, ◌<◌, zero-le}
+use Rattle.std.proofs.lemmas.Bool.{false≢true}
 use native.Mathlib.Omega.{arith}
-use lib.ListN.{length, get_or, set, drop, replicate, length-set, get_or-replicate}
+use lib.ListN.{length, get_or, set, take, drop, replicate, length-set, get_or-replicate}
 use lib.Seq.{get_or-set_same, get_or-set_other}
+use Rattle.std.specs.Prelude.{IsTrue, ◌↔◌, ◌≢◌, EachIndex, MatchBool}
+use Rattle.std.specs.List.{range_with_len, AllWithin, HoldsAt}
+use Rattle.std.proofs.lemmas.List.FromFn.{get_or-range_with_len, length-range_with_len}
+use Rattle.std.proofs.lemmas.List.{length-take-le, get_or-take}
 use Rattle.lent.specs.Count.{count}
 use Rattle.lent.proofs.Laws.{same_or_not}
+use Rattle.tree.specs.Rows.{once}
 use Rattle.tree.specs.Inner.{Tallied}
-use Rattle.tree.proofs.Rows.{count_hit, count_miss, count_end}
+use Rattle.tree.proofs.Rows.{count_hit, count_miss, count_end, once_told}
 
 -- after the first i entries
 pub record Tallying (list t : List ℕ) (i : ℕ) : Type 0 where
@@ -54,3 +61,33 @@ tally_miss list t i s lt high =
 
 pub tally_end : (list t : List ℕ) (i : ℕ) → Tallying list t i → length list ≤ i → Tallied list t
 tally_end list t i s h = record { each = λ k l. omega (arith, s.each k l, count_end k list i h) }
+
+-- the tally's first m entries, as they are tested
+pub tally_told : (list t : List ℕ) (m : ℕ) (r : Bool) → Tallied list t → m ≤ 128 → m ≤ length t
+    → (IsTrue r ↔ EachIndex (take m t) (λ k. get_or (take m t) k 0 ≡ 1)) → r ≡ once list m
+tally_told list t m r s h l e =
+    let n : length (take m t) ≡ m = length-take-le m t l in
+    once_told list m r (
+      (λ told k lt. s.each k (omega arith) ∙ sym (get_or-take m t k 0 lt) ∙ e.0 told k (omega arith)),
+      (λ each. e.1 (λ k lt. get_or-take m t k 0 (omega arith) ∙ sym (s.each k (omega arith)) ∙ each k (omega arith))),
+    )
+
+place : (m k : ℕ) → k < m → get_or (range_with_len 0 m) k 0 ≡ k
+place m k lt = omega (arith, get_or-range_with_len 0 m k 0 lt)
+
+-- each number below m, as it is looked for
+pub found_told : (list : List ℕ) (m : ℕ) (r : Bool)
+    → MatchBool r (AllWithin (λ k. count k list ≡ 1) (range_with_len 0 m) 0 (length (range_with_len 0 m)))
+    ((i : ℕ) × (i < length (range_with_len 0 m)) × HoldsAt (λ k. count k list ≢ 1) (range_with_len 0 m) i)
+    → r ≡ once list m
+found_told list m true e =
+    once_told list m true (
+      (λ h k lt. rw (place m k lt) at (e k 0 zero-le (omega (arith, length-range_with_len 0 m)))),
+      (λ each. refl),
+    )
+found_told list m false e =
+    let lt : e.0 < m = omega (arith, e.1, length-range_with_len 0 m) in
+    once_told list m false (
+      (λ h. absurd (false≢true h)),
+      (λ each. absurd (e.2 0 (rw (place m e.0 lt) (each e.0 lt)))),
+    )

@@ -10,12 +10,11 @@ use Rattle.refusal.specs.Refusal.{number_of}
 use Rattle.refusal.specs.Table.{first}
 use Rattle.lent.specs.Count.{count}
 use Rattle.lent.specs.Grid.{tab, grid}
-use Rattle.lent.specs.Lent.{over_limit, other_length, sizes, squares, laid, answer_of}
-use Rattle.lent.specs.declared.Answer.{Answer}
-use Rattle.lent.specs.declared.Answer.TheVariants.{Matrix, Refused}
+use Rattle.lent.specs.Lent.{over_limit, other_length, sizes, squares, laid, answer_of, Answer}
 use Rattle.tree.specs.Rows.{below, once, is_tree, is_order}
 use Rattle.tree.specs.Tree.{grow, tree_at, leaves, leaves_of}
 use Rattle.tree.specs.Order.{order_table, order_outcome, order_answer, order_laid, seriated_cell, seriate_outcome, seriate_answer, seriated}
+use Rattle.std.specs.Prelude.{Ok, Err}
 
 abbrev all : List Bool → Bool
 all [] = true
@@ -29,12 +28,12 @@ are (x ∷ xs) (y ∷ ys) = eqb x y && are xs ys
 
 -- an answer's rows and columns, or its refusal's number
 abbrev made : Answer → ℕ → ℕ → Bool
-made (Matrix r w) rows columns = eqb r rows && eqb w columns
-made (Refused r) rows columns = false
+made (Ok s) rows columns = eqb s.rows rows && eqb s.columns columns
+made (Err r) rows columns = false
 
 abbrev refused : Answer → ℕ → Bool
-refused (Matrix r w) number = false
-refused (Refused r) number = eqb (number_of r) number
+refused (Ok s) number = false
+refused (Err r) number = eqb (number_of r) number
 
 -- "rows [0,1],[2,3], leaves 2, 0, 1"
 abbrev three : List ℕ

@@ -1,24 +1,25 @@
 -- What a passed test of merge rows, and of an order, says of them.
 --     is_tree_lem, tree_holds      is_tree and its record
 --     is_order_lem, order_holds    `is_order` and its record
--- and the steps of the loops that test them: `count`, `below` and `once` at what is left.
+-- and the steps of the loops that test them: `count` and `below` at what is left.
 -- Assumes nothing.
 use mathlib.Core.Path.{◌≡◌, refl, sym, ap, ◌∙◌}
-use mathlib.Core.Bool.{true, false, ◌&&◌}
+use mathlib.Core.Bool.{Bool, true, false, ◌&&◌}
+use Rattle.std.specs.Prelude.{IsTrue, ◌↔◌, ◌==◌, cond, count_by}
 use mathlib.Core.Logic.{⊎_elim}
 use mathlib.Core.List.{List, [], ◌∷◌}
-use Prim.Native.Nat.{ℕ, zero, suc, ◌+◌, ◌-◌, ◌*◌, ◌/◌, ◌%◌, ◌≤◌, ◌<◌}
+use Prim.Native.Nat.{ℕ, zero, suc, ◌+◌, ◌-◌, ◌*◌, ◌/◌, ◌≤◌, ◌<◌}
 use native.Mathlib.Nat.{eq-or-lt_of_le}
 use native.Mathlib.Numerals.{add-one}
 use native.Mathlib.Omega.{arith}
 use lib.Dec.{ltb, eqb}
 use lib.ListN.{length, get_or, drop, drop_of_length-le}
 use lib.Seq.{drop-cons}
-use borrow.Author.Tests.{ltb-true, eqb-true, eqb-false, eq-eqb, ne_eqb, lt-ltb, le-ltb}
+use borrow.Author.Tests.{ltb-true, eqb-true, eq-eqb, ne_eqb, lt-ltb, le-ltb}
+use Rattle.std.proofs.lemmas.List.Recursion.{is_count_by}
 use Rattle.lent.specs.Count.{one, count, upto, over_all}
 use Rattle.lent.proofs.Laws.{either, and_left, and_right}
 use Rattle.lent.proofs.Counting.{one_le, one_false, upto_zero, upto_ones, upto_add, upto_is}
-use Rattle.lent.proofs.Sizes.{same_test}
 use Rattle.tree.specs.Rows.{below, once, is_tree, is_order}
 
 -- ---- what `below` says of the entry at j, and back
@@ -52,6 +53,11 @@ once_holds : (l : List ℕ) (m : ℕ) → ((x : ℕ) → x < m → count x l ≡
 unfolding once
 once_holds l zero h = refl
 once_holds l (suc m) h = rw (eq-eqb (count m l) 1 (h m (omega arith))) (once_holds l m (λ x lt. h x (omega arith)))
+
+-- what a test of each number says
+pub once_told : (l : List ℕ) (m : ℕ) (r : Bool) → (IsTrue r ↔ ((k : ℕ) → k < m → count k l ≡ 1)) → r ≡ once l m
+once_told l m true e = sym (once_holds l m (e.0 refl))
+once_told l m false e = ⊎_elim (λ h. e.1 (once_at l m h) ∙ sym h) (λ h. sym h) (either (once l m))
 
 -- ---- a tree
 
@@ -126,7 +132,17 @@ pub order_holds : (order : List ℕ) (n : ℕ) → length order ≡ n → ((a : 
 unfolding is_order
 order_holds order n size each = rw (eq-eqb (length order) n size) (once_holds order n each)
 
--- ---- `count`, `below` and `once` at what is left of the list
+-- ---- a count, as it is made
+
+one_more : (b : Bool) (n : ℕ) → one b + n ≡ cond b (1 + n) n
+one_more true n = refl
+one_more false n = omega arith
+
+pub count_is : (x : ℕ) (l : List ℕ) → count_by (λ y. y == x) l ≡ count x l
+unfolding count
+count_is x l = sym (is_count_by (count x) (λ y. y == x) refl (λ y ys. one_more (eqb y x) (count x ys)) l)
+
+-- ---- `count` and `below` at what is left of the list
 
 pub count_hit : (x : ℕ) (l : List ℕ) (i : ℕ) → i < length l → get_or l i 0 ≡ x → count x (drop i l) ≡ 1 + count x (drop (i + 1) l)
 unfolding count
@@ -151,42 +167,3 @@ below_bad n rows i h e = rw (drop-cons rows i 0, le-ltb (get_or rows i 0) (n + i
 pub below_end : (n : ℕ) (rows : List ℕ) (i : ℕ) → length rows ≤ i → below n i (drop i rows) ≡ true
 unfolding below
 below_end n rows i h = rw (drop_of_length-le rows h)
-
-pub once_good : (l : List ℕ) (m : ℕ) → 0 < m → count (m - 1) l ≡ 1 → once l m ≡ once l (m - 1)
-unfolding once
-once_good l zero h e = absurd (omega arith)
-once_good l (suc m) h e =
-    let s : suc m - 1 ≡ m = omega arith in
-    rw (s, eq-eqb (count m l) 1 (rw s at e))
-
-pub once_bad : (l : List ℕ) (m : ℕ) → 0 < m → (count (m - 1) l ≡ 1 → ⊥) → once l m ≡ false
-unfolding once
-once_bad l zero h e = absurd (omega arith)
-once_bad l (suc m) h e =
-    let s : suc m - 1 ≡ m = omega arith in
-    rw (ne_eqb (count m l) 1 (rw s at e))
-
-pub once_end : (l : List ℕ) (m : ℕ) → m ≤ 0 → once l m ≡ true
-unfolding once
-once_end l zero h = refl
-once_end l (suc m) h = absurd (omega arith)
-
--- ---- the number of rows, by halves
-
-pub rows_none : (len n : ℕ) → n ≡ 0 → eqb len (2 * (n - 1)) ≡ eqb len 0
-rows_none len n e = rw e
-
-pub rows_odd : (len n : ℕ) → (len % 2 ≡ 0 → ⊥) → eqb len (2 * (n - 1)) ≡ false
-rows_odd len n h = ne_eqb len (2 * (n - 1)) (λ e. h (omega arith))
-
-pub rows_even : (len n : ℕ) → (n ≡ 0 → ⊥) → len % 2 ≡ 0 → eqb len (2 * (n - 1)) ≡ eqb (len / 2) (n - 1)
-rows_even len n p h =
-    ⊎_elim
-    (λ e. let q : len / 2 ≡ n - 1 = eqb-true (len / 2) (n - 1) e in rw e (eq-eqb len (2 * (n - 1)) (omega arith)))
-    (λ e. rw e (ne_eqb len (2 * (n - 1)) (λ q. eqb-false (len / 2) (n - 1) e (omega arith))))
-    (either (eqb (len / 2) (n - 1)))
-
--- ---- a node's id, by its half
-
-pub above_half : (n v : ℕ) → (n ≡ 0 → ⊥) → ltb (n - 1) (v / 2 + v % 2) ≡ ltb (2 * n - 2) v
-above_half n v p = same_test (n - 1) (v / 2 + v % 2) (2 * n - 2) v (λ h. omega arith) (λ h. omega arith)

@@ -1,12 +1,10 @@
 -- Document 01, "Tree and leaf order": what the public calls answer and leave in their buffers. Definitions only.
 use Rattle.std.specs.Prelude.{ℕ, ◌-◌, ◌*◌, not, List, [], ◌∷◌, ◌++◌, ltb, eqb, length, get_or, Float}
 use Rattle.arithmetic.specs.Constants.{pz}
-use Rattle.refusal.specs.Table.{Line, first}
+use Rattle.refusal.specs.Table.{Line, first, Outcome}
 use Rattle.refusal.specs.declared.Refusal.TheVariants.{NoData, OverLimit, ShortBuffer, NoTree}
-use Rattle.refusal.specs.declared.Outcome.{Outcome}
 use Rattle.lent.specs.Grid.{cell, grid}
-use Rattle.lent.specs.Lent.{most_assets, squares, laid, answer_of}
-use Rattle.lent.specs.declared.Answer.{Answer}
+use Rattle.lent.specs.Lent.{most_assets, squares, laid, answer_of, Answer}
 use Rattle.tree.specs.Rows.{is_tree, is_order}
 use Rattle.tree.specs.Tree.{leaves_of}
 

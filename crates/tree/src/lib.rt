@@ -8,8 +8,8 @@ ghost use Rattle.tree.specs.Rows.{below, once, is_tree, is_order};
 ghost use Rattle.tree.specs.Order.{order_outcome, order_answer, order_laid, seriated_cell, seriate_outcome, seriate_answer, seriated};
 ghost use Rattle.tree.specs.Inner.{Tallied, Ready, Written, Seriable};
 
-use lent::Answer;
-use refusal::{Outcome, Refusal};
+use lent::Size;
+use refusal::Refusal;
 
 // A node's id: an asset's number below n, and n + k for row k.
 #[derive(Clone, Copy)]
@@ -23,15 +23,7 @@ pub struct Asset(pub usize);
 fn occurs(list: &[usize], x: usize) -> usize
     ensures { result ≡ count x list.now }
 {
-    let mut c = 0;
-    let mut i = 0;
-    while i < list.len() {
-        if list[i] == x {
-            c += 1;
-        }
-        i += 1;
-    }
-    c
+    list.iter().filter(|y| **y == x).count()
 }
 
 // How often each number below 128 stands in the list, in one pass.
@@ -39,13 +31,10 @@ fn tally(list: &[usize]) -> [usize; 128]
     ensures { Tallied list.now result }
 {
     let mut t = [0usize; 128];
-    let mut i = 0;
-    while i < list.len() {
-        let x = list[i];
+    for &x in list {
         if x < 128 {
             t[x] += 1;
         }
-        i += 1;
     }
     t
 }
@@ -56,28 +45,14 @@ fn each_tallied_once(list: &[usize], m: usize) -> bool
     ensures { result ≡ once list.now m }
 {
     let t = tally(list);
-    let mut k = m;
-    while k > 0 {
-        k -= 1;
-        if t[k] != 1 {
-            return false;
-        }
-    }
-    true
+    t[..m].iter().all(|seen| *seen == 1)
 }
 
 // Of more numbers, each is looked for.
 fn each_found_once(list: &[usize], m: usize) -> bool
     ensures { result ≡ once list.now m }
 {
-    let mut k = m;
-    while k > 0 {
-        k -= 1;
-        if occurs(list, k) != 1 {
-            return false;
-        }
-    }
-    true
+    (0..m).all(|k| occurs(list, k) == 1)
 }
 
 // Each number below m stands in the list once.
@@ -94,13 +69,7 @@ fn each_once(list: &[usize], m: usize) -> bool
 fn has_rows(len: usize, n: usize) -> bool
     ensures { result ≡ eqb len (2 * (n - 1)) }
 {
-    if n == 0 {
-        return len == 0;
-    }
-    if len % 2 != 0 {
-        return false;
-    }
-    len / 2 == n - 1
+    len % 2 == 0 && len / 2 == n.saturating_sub(1)
 }
 
 // Each row names only ids below its own node's, which fits since the length does.
@@ -108,35 +77,26 @@ fn each_below(rows: &[usize], n: usize) -> bool
     requires { length rows.now ≡ 2 * (n - 1) }
     ensures { result ≡ below n 0 rows.now }
 {
-    let mut i = 0;
-    while i < rows.len() {
-        if rows[i] >= n + i / 2 {
+    for (i, id) in rows.iter().enumerate() {
+        if *id >= n + i / 2 {
             return false;
         }
-        i += 1;
     }
     true
 }
 
+#[tactic(auto, using(crate::proofs::Rows::tree_once), unfolding(crate::specs::Rows::is_tree))]
 pub fn is_tree(rows: &[usize], n: usize) -> bool
     ensures { result ≡ is_tree rows.now n }
 {
-    if !has_rows(rows.len(), n) {
-        return false;
-    }
-    if !each_below(rows, n) {
-        return false;
-    }
-    each_once(rows, rows.len())
+    has_rows(rows.len(), n) && each_below(rows, n) && each_once(rows, rows.len())
 }
 
+#[tactic(auto, unfolding(crate::specs::Rows::is_order))]
 pub fn is_order(order: &[usize], n: usize) -> bool
     ensures { result ≡ is_order order.now n }
 {
-    if order.len() != n {
-        return false;
-    }
-    each_once(order, n)
+    order.len() == n && each_once(order, n)
 }
 
 // Writes a leaf to the front of out.
@@ -169,40 +129,37 @@ fn leaves(rows: &[usize], n: usize, node: Node, out: &mut [usize]) -> usize
 pub fn is_above(node: Node, n: usize) -> bool
     ensures { result ≡ ltb (2 * n - 2) node.0 }
 {
-    if n == 0 {
-        return 0 < node.0;
-    }
-    n - 1 < node.0 / 2 + node.0 % 2
+    n.saturating_sub(1) < node.0 / 2 + node.0 % 2
 }
 
 // The refusal of a leaf order into a buffer of `room`, if there is one.
-fn judge_order(rows: &[usize], n: usize, node: Node, room: usize) -> Outcome
+#[tactic(auto, unfolding(crate::specs::Order::order_outcome, crate::specs::Order::order_table, refusal::specs::Table::first, refusal::specs::Table::or_else))]
+fn judge_order(rows: &[usize], n: usize, node: Node, room: usize) -> Result<(), Refusal>
     ensures { result ≡ order_outcome rows.now n node.0 room }
 {
-    if lent::MOST_ASSETS < n {
-        return Outcome::Refused(Refusal::OverLimit);
-    }
-    let empty = n == 0;
-    let odd = !is_tree(rows, n);
-    let above = is_above(node, n);
-    let rest = refusal::refuse(above, Refusal::NoTree, Outcome::Done);
-    let rest = refusal::refuse(odd, Refusal::NoTree, rest);
-    let rest = refusal::refuse(empty, Refusal::NoData, rest);
-    refusal::refuse(room < n, Refusal::ShortBuffer, rest)
+    refusal::refuse(lent::MOST_ASSETS < n, Refusal::OverLimit)?;
+    refusal::refuse(room < n, Refusal::ShortBuffer)?;
+    refusal::refuse(n == 0, Refusal::NoData)?;
+    refusal::refuse(!is_tree(rows, n), Refusal::NoTree)?;
+    refusal::refuse(is_above(node, n), Refusal::NoTree)
 }
 
 // The leaves below a node, the left child's before the right child's, with zeros after them.
-pub fn quasi_diagonalization(rows: &[usize], n: usize, node: Node, out: &mut [usize]) -> Answer
+#[tactic(auto, using(lent::proofs::Laws::over_replicate), unfolding(crate::specs::Order::order_answer, crate::specs::Order::order_laid, lent::specs::Lent::answer_of, lent::specs::Lent::laid))]
+pub fn quasi_diagonalization(
+    rows: &[usize],
+    n: usize,
+    node: Node,
+    out: &mut [usize],
+) -> Result<Size, Refusal>
     ensures value { result ≡ order_answer rows.now n node.0 (length out.old) }
     ensures out_after { out.new ≡ order_laid rows.now n node.0 (length out.old) }
 {
     let said = judge_order(rows, n, node, out.len());
-    lent::clear_numbers(out);
-    let Outcome::Done = said else {
-        return lent::answered(said, 0, 0);
-    };
-    let m = leaves(rows, n, node, out);
-    lent::answered(said, 1, m)
+    lent::clear(out);
+    said?;
+    let columns = leaves(rows, n, node, out);
+    Ok(Size { rows: 1, columns })
 }
 
 // The cell of two assets in a matrix of n.
@@ -229,11 +186,9 @@ fn seriate_row(matrix: &[f64], n: usize, order: &[usize], i: usize, out: &mut [f
     requires out_value { over (grid i n (seriated_cell matrix.now n order.now)) out.old ≡ out.old }
     ensures { out.new ≡ over (grid (i + 1) n (seriated_cell matrix.now n order.now)) out.old }
 {
-    let mut j = 0;
-    while j < n {
+    for j in 0..n {
         let v = at(matrix, n, Asset(order[i]), Asset(order[j]));
         put(out, n, i, j, v);
-        j += 1;
     }
 }
 
@@ -242,46 +197,44 @@ fn seriate_rows(matrix: &[f64], n: usize, order: &[usize], out: &mut [f64])
     requires n_in_bounds { n * n ≤ length out.old }
     ensures { out.new ≡ over (grid n n (seriated_cell matrix.now n order.now)) out.old }
 {
-    let mut i = 0;
-    while i < n {
+    for i in 0..n {
         seriate_row(matrix, n, order, i, out);
-        i += 1;
     }
 }
 
 // The refusal of a matrix to be seriated into a buffer of `room`, if there is one.
+#[tactic(auto, using(refusal::proofs::Tables::first_append), unfolding(crate::specs::Order::seriate_outcome, refusal::specs::Table::and_then, refusal::specs::Table::first, refusal::specs::Table::or_else))]
 fn judge_seriation(
     matrix: &[f64],
     rows: usize,
     columns: usize,
     order: &[usize],
     room: usize,
-) -> Outcome
+) -> Result<(), Refusal>
     ensures { result ≡ seriate_outcome matrix.now rows columns order.now room }
 {
-    let said = lent::squared(matrix.len(), rows, columns, room);
-    let Outcome::Done = said else {
-        return said;
-    };
-    refusal::refuse(!is_order(order, columns), Refusal::NoTree, said)
+    lent::squared(matrix.len(), rows, columns, room)?;
+    refusal::refuse(!is_order(order, columns), Refusal::NoTree)
 }
 
 // Cell (i, j) of the answer is the cell of the order's i-th and j-th asset.
+#[tactic(auto, using(crate::proofs::Answer::seriate_done, lent::proofs::Laws::over_replicate), unfolding(crate::specs::Order::seriate_answer, crate::specs::Order::seriated, lent::specs::Lent::answer_of, lent::specs::Lent::laid))]
 pub fn seriate_matrix(
     matrix: &[f64],
     rows: usize,
     columns: usize,
     order: &[usize],
     out: &mut [f64],
-) -> Answer
+) -> Result<Size, Refusal>
     ensures value { result ≡ seriate_answer matrix.now rows columns order.now (length out.old) }
     ensures out_after { out.new ≡ seriated matrix.now rows columns order.now (length out.old) }
 {
     let said = judge_seriation(matrix, rows, columns, order, out.len());
     lent::clear(out);
-    let Outcome::Done = said else {
-        return lent::answered(said, columns, columns);
-    };
+    said?;
     seriate_rows(matrix, columns, order, out);
-    lent::answered(said, columns, columns)
+    Ok(Size {
+        rows: columns,
+        columns,
+    })
 }

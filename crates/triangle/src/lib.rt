@@ -50,7 +50,7 @@ fn agrees(before: bool, x: f64, y: f64) -> bool
     ensures { result ≡ (before && eqb (to_bits binary64 x) (to_bits binary64 y)) }
 {
     if x == y {
-        return before && f64::to_bits(x) == f64::to_bits(y);
+        return before && x.to_bits() == y.to_bits();
     }
     before && x != x && y != y
 }
@@ -75,13 +75,7 @@ pub fn above(xs: &[f64], n: usize, d: &mut [f64]) -> bool
     ensures value { result ≡ (has_room n xs.now d.old && mirrored n xs.now) }
     ensures d_after { d.new ≡ cond (has_room n xs.now d.old) (upper_of n xs.now d.old) d.old }
 {
-    if n > 64 {
-        return false;
-    }
-    if xs.len() != n * n {
-        return false;
-    }
-    if d.len() < (n * n - n) / 2 {
+    if n > 64 || xs.len() != n * n || d.len() < (n * n - n) / 2 {
         return false;
     }
     let mut same = true;

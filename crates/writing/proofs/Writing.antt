@@ -1,27 +1,17 @@
 -- Bytes written one part after another. Assumes nothing.
 use Prim.Native.Nat.{ℕ, zero, suc, ◌+◌, ◌-◌, ◌*◌, ◌≤◌, ◌<◌}
 use mathlib.Core.Path.{◌≡◌, refl, sym, ap, ◌∙◌, subst}
-use mathlib.Core.Bool.{Bool, true, false}
 use mathlib.Core.List.{List, [], ◌∷◌, ◌++◌, append_assoc}
 use native.Mathlib.Omega.{arith}
 use native.Mathlib.Nat.{add-zero, zero-add, add_assoc, mul-suc}
 use native.Mathlib.Numerals.{add-one}
-use borrow.Author.Tests.{ltb-true, ltb-false, lt-ltb, le-ltb, le-leb, lt-leb}
-use lib.Dec.{ltb}
-use lib.ListN.{length, get_or, set, take, drop, length-append, length-set}
-use lib.Seq.{paste, paste-zero, paste-suc, length-paste, take-paste, drop-paste, take-length, take-append-le, take-take, drop-drop, drop_at, length-take-le, set_split, append_snoc}
+use borrow.Author.Tests.{le-leb, lt-leb}
+use lib.ListN.{length, set, take, drop, length-append, length-set}
+use lib.Seq.{paste, paste-zero, length-paste, take-paste, drop-paste, take-length, take-append-le, take-take, drop-drop, drop_at, length-take-le, set_split, append_snoc}
+use borrow.Rule.Slice.PartMut.{put_mid}
+use Rattle.std.proofs.lemmas.Slice.{put_mid-paste}
 use Rattle.lent.specs.Grid.{over}
 use Rattle.writing.specs.Writing.{joined, written, put, past, Put, Wrote, Fitting}
-
--- ---- a copy, byte by byte
-
-module _ (d l : List ℕ) (at : ℕ) (s : List ℕ) (j : ℕ) (e : d ≡ paste l at s j) where
-  pub copy_more : at + j < length l → j < length s → set d (at + j) (get_or s j 0) ≡ paste l at s (j + 1)
-  copy_more h g = rw (e, add-one) (paste-suc l at s j 0 h g)
-
-  pub copy_end : j ≡ length s → d ≡ written l at s
-  unfolding written
-  copy_end h = rw h at e
 
 -- ---- what writing functions promise
 
@@ -29,6 +19,14 @@ module _ (d l : List ℕ) (at : ℕ) (s : List ℕ) (j : ℕ) (e : d ≡ paste l
 pub nothing : (d : List ℕ) (at : ℕ) → at ≤ length d → Wrote d at [] d at
 unfolding written
 nothing d at h = record { moved = sym (add-zero at); room = h; same = refl; bytes = paste-zero d at [] }
+
+-- a whole copy
+pub copied : (d : List ℕ) (at : ℕ) (s m : List ℕ) → at + length s ≤ length d → m ≡ s → Wrote d at s (put_mid at (at + length s - at) d m) (at + length s)
+unfolding written
+copied d at s m h e =
+    let k : length s ≡ at + length s - at = omega arith in
+    let w : put_mid at (at + length s - at) d m ≡ paste d at s (length s) = put_mid-paste at (at + length s - at) d m s (length s) e k refl in
+    record { moved = refl; room = h; same = ap length w ∙ length-paste d at s (length s) h (omega arith); bytes = w }
 
 pub one_byte : (d : List ℕ) (at b : ℕ) → at < length d → Wrote d at (b ∷ []) (set d at b) (at + 1)
 unfolding written
@@ -90,16 +88,6 @@ before {d} {at} {s} {d'} {at'} b w = record {
 }
 
 -- ---- what a call promises that writes where there is room
-
-pub room_none : (room at k : ℕ) → room < at → true ≡ ltb room (at + k)
-room_none room at k h = sym (lt-ltb room (at + k) (omega arith))
-
-pub room_left : (room at k : ℕ) → at ≤ room → ltb (room - at) k ≡ ltb room (at + k)
-room_left room at k h = go (ltb (room - at) k) refl
-  where
-    go : (b : Bool) → ltb (room - at) k ≡ b → b ≡ ltb room (at + k)
-    go true e = sym (lt-ltb room (at + k) (omega (arith, ltb-true (room - at) k e)))
-    go false e = sym (le-ltb room (at + k) (omega (arith, ltb-false (room - at) k e)))
 
 module _ {d : List ℕ} {at : ℕ} {s d' : List ℕ} {at' : ℕ} where
   pub put_wrote : Wrote d at s d' at' → Put d at s d' at'

@@ -5,13 +5,11 @@ ghost use Rattle.std.specs.Prelude.{◌≡◌, [], ◌∷◌, ◌+◌, ◌≤◌
 ghost use Rattle.writing.specs.Writing.{digit_byte, digits, decimal, hex_of, Put};
 
 // Whether k bytes from place `at` on go past the end of the room.
+#[tactic(auto, using(std::proofs::lemmas::Bool::Decides::nat_tests))]
 fn lacks_room(room: usize, at: usize, k: usize) -> bool
     ensures { result ≡ ltb room (at + k) }
 {
-    if room < at {
-        return true;
-    }
-    room - at < k
+    room < at || room - at < k
 }
 
 // s is written from place `at` on; the answer is the place after it. Nothing is written where it does not fit.
@@ -21,12 +19,9 @@ pub fn put_bytes(out: &mut [u8], at: usize, s: &[u8]) -> usize
     if lacks_room(out.len(), at, s.len()) {
         return at;
     }
-    let mut i = 0;
-    while i < s.len() {
-        out[at + i] = s[i];
-        i += 1;
-    }
-    at + s.len()
+    let end = at + s.len();
+    out[at..end].copy_from_slice(s);
+    end
 }
 
 // One byte, likewise.
@@ -41,14 +36,15 @@ pub fn put_byte(out: &mut [u8], at: usize, b: u8) -> usize
 }
 
 // A digit as a byte: 0 to 9, then a to f.
+#[tactic(auto, using(std::proofs::lemmas::Bool::Decides::nat_tests), unfolding(crate::specs::Writing::digit_byte))]
 fn digit_byte(d: u64) -> u8
     requires { d < 16 }
     ensures { result ≡ digit_byte d }
 {
-    if d < 10 {
-        return d as u8 + 48;
+    match d {
+        0..=9 => b'0' + d as u8,
+        _ => b'a' + (d as u8 - 10),
     }
-    d as u8 + 87
 }
 
 // The k last digits of n, from the last one to the first.
@@ -61,9 +57,7 @@ fn put_digits(out: &mut [u8], at: usize, base: u64, k: usize, n: u64) -> usize
         return at;
     }
     let mut left = n;
-    let mut i = k;
-    while i > 0 {
-        i -= 1;
+    for i in (0..k).rev() {
         out[at + i] = digit_byte(left % base);
         left /= base;
     }

@@ -6,12 +6,12 @@ use borrow.Author.Rules.{rules}
 use lib.ListN.{length}
 use lib.Seq.{length-take-le, length_front}
 use lib.Ieee.{Float}
-use Rattle.refusal.specs.declared.Outcome.TheVariants.{Done}
 use Rattle.lent.specs.Lent.{laid}
 use Rattle.lent.proofs.Laws.{length_grid}
 use Rattle.linkage.specs.Merge.{merge_rows}
 use Rattle.arranging.proofs.Laws.{betweens_front, rows_laid, tree_between}
 use Rattle.arranging.proofs.link_between.Goals as goal
+use Rattle.std.specs.Prelude.{Ok}
 
 pub slice_bounds-distance_of_distances-end-2 : goal.slice_bounds-distance_of_distances-end-2
 slice_bounds-distance_of_distances-end-2 c = sym (length-take-le _ _ c.requires.n_in_bounds)
@@ -28,4 +28,4 @@ shape_of-rows c = c.linkage_children.auto.out
 pub returns : goal.returns
 returns c =
     let f = betweens_front c.args.n c.requires.n_bound c.args.d.now _ _ c.requires.d_len _ (length-take-le _ _ c.requires.n_in_bounds) c.distance_of_distances.auto.out c.distance_of_distances.ensures.out_after in
-    rows_laid c.args.n c.requires.n_bound c.args.linkage _ _ (ap length f ∙ length_grid c.args.n c.args.n _) _ c.requires.n_in_bounds_2 c.linkage_children.ensures.out_after ∙ ap (λ (x : List Float). laid 0 Done (length c.args.rows.now) (merge_rows c.args.linkage c.args.n x)) (f ∙ tree_between c.args.d.now c.args.n)
+    rows_laid c.args.n c.requires.n_bound c.args.linkage _ _ (ap length f ∙ length_grid c.args.n c.args.n _) _ c.requires.n_in_bounds_2 c.linkage_children.ensures.out_after ∙ ap (λ (x : List Float). laid 0 (Ok tt) (length c.args.rows.now) (merge_rows c.args.linkage c.args.n x)) (f ∙ tree_between c.args.d.now c.args.n)

@@ -2,9 +2,6 @@
 use Rattle.bisection.proofs.Halves.{normal_yes, normal_no}
 use Rattle.bisection.proofs.normalise.Goals as goal
 
-pub shape_of-ws-then-s : goal.shape_of-ws-then-s
-shape_of-ws-then-s c = c.divide.auto.ws
-
 pub returns-then-s : goal.returns-then-s
 returns-then-s c = normal_yes _ _ _ c.total-s.ensures c.if-s.true c.divide.ensures
 

@@ -1,6 +1,6 @@
 -- `branches::descend` meets its contract. The first places and the depths go down together, each row's children from its node. Assumes nothing.
 use native.Mathlib.Omega.{arith}
-use Rattle.branches.proofs.Passes.{entries_in, left_within, right_within, left_kept, right_kept, placing_start, placing_fits, placing_step, placing_end, sinking_start, sinking_fits, sinking_step, sinking_end}
+use Rattle.branches.proofs.Passes.{entries_in, left_within, right_within, left_kept, right_kept, placing_start, placing_fits, placing_step, placing_end, sinking_start, sinking_step, sinking_end}
 use Rattle.branches.proofs.descend.Goals as goal
 
 pub loop-k-init : goal.loop-k-init
@@ -20,9 +20,6 @@ bounds-sizes-left c = left_within c.requires.measured.rooted c.loop-k.invariant.
 
 pub overflow_add-q : goal.overflow_add-q
 overflow_add-q c = omega (arith, placing_fits c.requires.measured c.requires.emptied c.loop-k.invariant.0 c.loop-k-test.true)
-
-pub overflow_add-d-in-loop-k : goal.overflow_add-d-in-loop-k
-overflow_add-d-in-loop-k c = omega (arith, sinking_fits c.requires.measured.rooted c.requires.emptied_2 c.loop-k.invariant.1 c.loop-k-test.true)
 
 pub offset_bounds-firsts-left : goal.offset_bounds-firsts-left
 offset_bounds-firsts-left c = omega (arith, left_kept c.requires.measured.rooted c.loop-k.invariant.0 c.requires.emptied.room c.loop-k-test.true)
@@ -50,12 +47,6 @@ bounds-depths-right c = right_kept c.requires.measured.rooted c.loop-k.invariant
 
 pub loop-k-preserved : goal.loop-k-preserved
 loop-k-preserved c = (placing_step c.requires.measured c.requires.emptied c.loop-k.invariant.0 c.loop-k-test.true, sinking_step c.requires.measured.rooted c.requires.emptied_2 c.loop-k.invariant.1 c.loop-k-test.true)
-
-pub shape_of-firsts : goal.shape_of-firsts
-shape_of-firsts c = c.loop-k.invariant.0.same
-
-pub shape_of-depths : goal.shape_of-depths
-shape_of-depths c = c.loop-k.invariant.1.same
 
 pub returns : goal.returns
 returns c = record {

@@ -1,15 +1,15 @@
 -- `branches::lacks_nodes` meets its contract. Assumes nothing.
-use Rattle.branches.proofs.Answer.{nodes_none, nodes_one, nodes_two, nodes_three}
+use Rattle.std.proofs.Common.{arith}
+use Rattle.branches.proofs.Answer.{nodes_one, nodes_two, nodes_three}
 use Rattle.branches.proofs.lacks_nodes.Goals as goal
-
-pub returns-then-n-eq0 : goal.returns-then-n-eq0
-returns-then-n-eq0 c = nodes_none _ _ _ _ c.if-n-eq0.true
-
-pub returns-then-a-nodes : goal.returns-then-a-nodes
-returns-then-a-nodes c = nodes_one _ _ _ _ c.if-a-nodes.true
+use Rattle.branches.proofs.lacks_nodes.Goals.{then-a-nodes, else-a-nodes}
 
 pub returns-then-b-nodes : goal.returns-then-b-nodes
-returns-then-b-nodes c = nodes_two _ _ _ _ c.if-a-nodes.false c.if-b-nodes.true
+returns-then-b-nodes c =
+    elim c.if-a-nodes.branch [
+      | then-a-nodes w ↦ cc (nodes_one c.args.n c.args.a c.args.b c.args.c (omega arith))
+      | else-a-nodes w ↦ cc (nodes_two c.args.n c.args.a c.args.b c.args.c (omega arith) (omega arith))
+    ]
 
-pub returns : goal.returns
-returns c = nodes_three _ _ _ _ c.if-a-nodes.false c.if-b-nodes.false
+pub returns-else-b-nodes : goal.returns-else-b-nodes
+returns-else-b-nodes c = rw c.saturating_sub-nodes.ensures (nodes_three _ _ _ _ (omega arith) (omega arith))

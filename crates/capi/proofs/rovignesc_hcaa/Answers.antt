@@ -38,4 +38,4 @@ shape_of-asked c = c.tell-2.auto.asked
 
 pub returns : goal.returns
 returns c =
-    hcaa_done _ _ _ _ c.shape_if-prices_shape.ensures _ _ _ c.shape_if-returns_shape.ensures _ _ _ c.shape_if-covariance_shape.ensures _ _ _ _ _ _ _ _ _ _ _ _ c.judge_hcaa-said.ensures _ _ _ _ _ _ c.in-Done.is _ c.clusters_in.ensures _ c.distance_in.ensures _ c.linkage_in.ensures _ c.tell-2.ensures.value c.tell-2.ensures.asked_after c.allocate-answer.ensures
+    hcaa_done _ _ _ _ c.shape_if-prices_shape.ensures _ _ _ c.shape_if-returns_shape.ensures _ _ _ c.shape_if-covariance_shape.ensures _ _ _ _ _ _ _ _ _ _ _ _ c.judge_hcaa-said.ensures _ _ _ _ _ _ c.in-Ok.is _ c.clusters_in.ensures _ c.distance_in.ensures _ c.linkage_in.ensures _ c.tell-2.ensures.value c.tell-2.ensures.asked_after c.allocate-answer.ensures

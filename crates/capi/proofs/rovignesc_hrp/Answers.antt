@@ -44,4 +44,4 @@ shape_of-scratch c = c.allocate.auto.scratch
 
 pub returns : goal.returns
 returns c =
-    hrp_done _ _ _ _ c.shape_if-prices_shape.ensures _ _ _ c.shape_if-returns_shape.ensures _ _ _ c.shape_if-covariance_shape.ensures _ _ _ _ _ c.judge_hrp-said.ensures _ _ _ _ _ _ _ c.in-Done.is _ c.number-2.ensures (rw c.distance_in.ensures at c.allocate.ensures)
+    hrp_done _ _ _ _ c.shape_if-prices_shape.ensures _ _ _ c.shape_if-returns_shape.ensures _ _ _ c.shape_if-covariance_shape.ensures _ _ _ _ _ c.judge_hrp-said.ensures _ _ _ _ _ _ _ c.in-Ok.is _ c.number-2.ensures (rw c.distance_in.ensures at c.allocate.ensures)

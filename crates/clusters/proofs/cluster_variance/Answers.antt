@@ -1,23 +1,44 @@
 -- `clusters::cluster_variance` meets its contract. Assumes nothing.
-use Rattle.clusters.proofs.Laws.{square_done, variance_said, variance_accepted, variance_refused, variance_done}
 use mathlib.Core.Path.{sym, ◌∙◌}
+use Rattle.std.proofs.lemmas.Result.{err_from_is_err_and}
+use Rattle.refusal.proofs.Tables.{then_done, then_refused}
+use Rattle.clusters.proofs.Laws.{variance_stages, variance_refused, sized, all_listed}
 use Rattle.clusters.proofs.cluster_variance.Goals as goal
 
-pub judge-said-requires : goal.judge-said-requires
-judge-said-requires c =
-    square_done c.args.rows c.args.columns _ _ c.refuse-fits.ensures
+pub returns-in_err-judge_sizes : goal.returns-in_err-judge_sizes
+returns-in_err-judge_sizes c =
+    let p = err_from_is_err_and c.from_residual.result c.from_residual.ensures.1 in
+    let r = sym c.judge_sizes.ensures ∙ c.in_err-judge_sizes.was in
+    rw (p.1, p.2) (sym (variance_refused _ _ _ _ _ (variance_stages _ _ _ _ ∙ then_refused _ _ _ r)))
+
+pub returns-in_err-refuse : goal.returns-in_err-refuse
+returns-in_err-refuse c =
+    let p = err_from_is_err_and c.from_residual-in_err-refuse.result c.from_residual-in_err-refuse.ensures.1 in
+    let s = sym c.judge_sizes.ensures ∙ c.in_ok-judge_sizes.was in
+    let r = sym c.refuse.ensures ∙ c.in_err-refuse.was in
+    rw (p.1, p.2) (sym (variance_refused _ _ _ _ _ (variance_stages _ _ _ _ ∙ then_done _ _ s ∙ then_refused _ _ _ r)))
+
+pub returns-in_err-judge_risk : goal.returns-in_err-judge_risk
+returns-in_err-judge_risk c =
+    let p = err_from_is_err_and c.from_residual-in_err-judge_risk.result c.from_residual-in_err-judge_risk.ensures.1 in
+    let s = sym c.judge_sizes.ensures ∙ c.in_ok-judge_sizes.was in
+    let q = sym c.refuse.ensures ∙ c.in_ok-refuse.was in
+    let r = sym c.judge_risk.ensures ∙ c.in_err-judge_risk.was in
+    rw (p.1, p.2) (sym (variance_refused _ _ _ _ _ (variance_stages _ _ _ _ ∙ then_done _ _ s ∙ then_done _ _ q ∙ r)))
+
+pub judge_risk-requires : goal.judge_risk-requires
+judge_risk-requires c =
+    let s = sym c.judge_sizes.ensures ∙ c.in_ok-judge_sizes.was in
+    let q = sym c.refuse.ensures ∙ c.in_ok-refuse.was in
+    let z = sized _ _ _ _ s q in
+    record {
+      cov_len = z.0;
+      assets_len_bound = z.1;
+    }
 
 pub variance-requires : goal.variance-requires
 variance-requires c =
-    let j = variance_said c.args.cov.now c.args.rows c.args.columns c.args.assets.now _ _ c.refuse-fits.ensures c.judge-said.ensures in
-    (variance_accepted c.args.cov.now c.args.rows c.args.columns c.args.assets.now (sym j ∙ c.in-Done.is)).1
-
-pub returns-in-Refused : goal.returns-in-Refused
-returns-in-Refused c =
-    let j = variance_said c.args.cov.now c.args.rows c.args.columns c.args.assets.now _ _ c.refuse-fits.ensures c.judge-said.ensures in
-    variance_refused _ _ _ _ _ j _ c.in-Refused.is
-
-pub returns-in-Done : goal.returns-in-Done
-returns-in-Done c =
-    let j = variance_said c.args.cov.now c.args.rows c.args.columns c.args.assets.now _ _ c.refuse-fits.ensures c.judge-said.ensures in
-    variance_done _ _ _ _ _ j _ c.in-Done.is c.variance.ensures
+    let s = sym c.judge_sizes.ensures ∙ c.in_ok-judge_sizes.was in
+    let q = sym c.refuse.ensures ∙ c.in_ok-refuse.was in
+    let u = sym c.judge_risk.ensures ∙ c.in_ok-judge_risk.was in
+    all_listed _ _ _ _ s q u

@@ -1,38 +1,58 @@
 -- `clusters::inverse_variance_weights` meets its contract. Assumes nothing.
-use Rattle.clusters.proofs.Laws.{square_done, later_done, shares_said, shares_accepted, shares_answered, shares_refused, shares_done}
 use mathlib.Core.Path.{sym, ◌∙◌}
-use native.Mathlib.Omega.{arith}
-use lib.ListN.{length}
+use borrow.Author.Tests.{ltb-false}
+use Rattle.refusal.specs.declared.Refusal.TheVariants.{ShortBuffer}
+use Rattle.std.proofs.lemmas.Result.{err_from_is_err_and}
+use Rattle.refusal.proofs.Tables.{then_done, then_refused}
+use Rattle.clusters.proofs.Laws.{shares_stages, shares_refused, sized, all_listed, passed}
 use Rattle.clusters.proofs.inverse_variance_weights.Goals as goal
 
-pub judge-said-requires : goal.judge-said-requires
-judge-said-requires c =
-    λ d. square_done c.args.rows c.args.columns _ _ c.refuse-rest.ensures (later_done _ _ _ _ c.refuse-fits.ensures d)
+pub returns-in_err-judge_sizes-clause-value : goal.returns-in_err-judge_sizes-clause-value
+returns-in_err-judge_sizes-clause-value c =
+    let p = err_from_is_err_and c.from_residual.result c.from_residual.ensures.1 in
+    let r = sym c.judge_sizes.ensures ∙ c.in_err-judge_sizes.was in
+    rw (p.1, p.2) (sym (shares_refused _ _ _ _ _ _ (shares_stages _ _ _ _ _ ∙ then_refused _ _ _ r)))
 
-pub shape_of-out-in_default : goal.shape_of-out-in_default
-shape_of-out-in_default c = c.clear.auto.out
+pub returns-in_err-refuse-clause-value : goal.returns-in_err-refuse-clause-value
+returns-in_err-refuse-clause-value c =
+    let p = err_from_is_err_and c.from_residual-in_err-refuse.result c.from_residual-in_err-refuse.ensures.1 in
+    let s = sym c.judge_sizes.ensures ∙ c.in_ok-judge_sizes.was in
+    let r = sym (rw c.clear.auto.out at c.refuse.ensures) ∙ c.in_err-refuse.was in
+    rw (p.1, p.2) (sym (shares_refused _ _ _ _ _ _ (shares_stages _ _ _ _ _ ∙ then_done _ _ s ∙ then_refused _ _ _ r)))
 
-pub returns-in_default : goal.returns-in_default
-returns-in_default c = let j = shares_said c.args.cov.now c.args.rows c.args.columns c.args.assets.now (length c.args.out.now) _ _ _ c.refuse-rest.ensures c.refuse-fits.ensures c.judge-said.ensures in
+pub returns-in_err-refuse-2-clause-value : goal.returns-in_err-refuse-2-clause-value
+returns-in_err-refuse-2-clause-value c =
+    let p = err_from_is_err_and c.from_residual-in_err-refuse-2.result c.from_residual-in_err-refuse-2.ensures.1 in
+    let s = sym c.judge_sizes.ensures ∙ c.in_ok-judge_sizes.was in
+    let q = sym (rw c.clear.auto.out at c.refuse.ensures) ∙ c.in_ok-refuse.was in
+    let r = sym c.refuse-2.ensures ∙ c.in_err-refuse-2.was in
+    rw (p.1, p.2) (sym (shares_refused _ _ _ _ _ _ (shares_stages _ _ _ _ _ ∙ then_done _ _ s ∙ then_done _ _ q ∙ then_refused _ _ _ r)))
+
+pub returns-in_err-judge_risk-clause-value : goal.returns-in_err-judge_risk-clause-value
+returns-in_err-judge_risk-clause-value c =
+    let p = err_from_is_err_and c.from_residual-in_err-judge_risk.result c.from_residual-in_err-judge_risk.ensures.1 in
+    let s = sym c.judge_sizes.ensures ∙ c.in_ok-judge_sizes.was in
+    let q = sym (rw c.clear.auto.out at c.refuse.ensures) ∙ c.in_ok-refuse.was in
+    let t = sym c.refuse-2.ensures ∙ c.in_ok-refuse-2.was in
+    let r = sym c.judge_risk.ensures ∙ c.in_err-judge_risk.was in
+    rw (p.1, p.2) (sym (shares_refused _ _ _ _ _ _ (shares_stages _ _ _ _ _ ∙ then_done _ _ s ∙ then_done _ _ q ∙ then_done _ _ t ∙ r)))
+
+pub judge_risk-requires : goal.judge_risk-requires
+judge_risk-requires c =
+    let s = sym c.judge_sizes.ensures ∙ c.in_ok-judge_sizes.was in
+    let q = sym c.refuse-2.ensures ∙ c.in_ok-refuse-2.was in
+    let z = sized _ _ _ _ s q in
     record {
-      value = shares_answered _ _ _ _ _ _ j _ c.answered.ensures;
-      out_after = shares_refused _ _ _ _ _ _ j _ _ c.in_default.is c.clear.ensures;
+      cov_len = z.0;
+      assets_len_bound = z.1;
     }
 
 pub fill-requires : goal.fill-requires
-fill-requires c = let j = shares_said c.args.cov.now c.args.rows c.args.columns c.args.assets.now (length c.args.out.now) _ _ _ c.refuse-rest.ensures c.refuse-fits.ensures c.judge-said.ensures in
-    let p = shares_accepted c.args.cov.now c.args.rows c.args.columns c.args.assets.now (length c.args.out.now) (sym j ∙ c.in-Done.is) in
+fill-requires c =
+    let s = sym c.judge_sizes.ensures ∙ c.in_ok-judge_sizes.was in
+    let q = sym c.refuse-2.ensures ∙ c.in_ok-refuse-2.was in
+    let u = sym c.judge_risk.ensures ∙ c.in_ok-judge_risk.was in
     record {
-      listed_assets = p.1;
-      assets_in_bounds = omega (arith, p.2, c.clear.auto.out);
-    }
-
-pub shape_of-out : goal.shape_of-out
-shape_of-out c = c.fill.auto.out ∙ c.clear.auto.out
-
-pub returns : goal.returns
-returns c = let j = shares_said c.args.cov.now c.args.rows c.args.columns c.args.assets.now (length c.args.out.now) _ _ _ c.refuse-rest.ensures c.refuse-fits.ensures c.judge-said.ensures in
-    record {
-      value = shares_answered _ _ _ _ _ _ j _ c.answered-2.ensures;
-      out_after = shares_done _ _ _ _ _ _ j _ _ c.in-Done.is c.clear.ensures c.fill.ensures;
+      listed_assets = all_listed _ _ _ _ s q u;
+      assets_in_bounds = ltb-false _ _ (passed _ ShortBuffer (sym c.refuse.ensures ∙ c.in_ok-refuse.was));
     }

@@ -1,13 +1,8 @@
--- What the loops of `clusters::recip_sum` keep true, and what falls. Assumes nothing.
-use Prim.Native.Nat.{◌-◌, ◌≤◌}
-use lib.ListN.{length}
-use mathlib.Core.Path.{◌≡◌}
+-- What the loops of `clusters::recip_sum` keep true. Assumes nothing.
+use Rattle.std.proofs.Common.{◌≡◌}
 use Rattle.lent.specs.Grid.{sum_to}
 use Rattle.clusters.specs.Clusters.{recip}
 use Rattle.clusters.proofs.recip_sum.Given as goal
 
-abbrev pub invariant-loop-k : goal.invariant-loop-k
-invariant-loop-k l = (l.k ≤ length l.assets) × (l.s ≡ sum_to l.k (recip l.cov l.n l.assets))
-
-abbrev pub decreases-loop-k : goal.decreases-loop-k
-decreases-loop-k l = length l.assets - l.k
+abbrev pub invariant-loop-a : goal.invariant-loop-a
+invariant-loop-a l = l.s ≡ sum_to l.a-index (recip l.cov l.n l.assets)

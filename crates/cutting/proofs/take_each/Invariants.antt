@@ -1,11 +1,6 @@
--- What the loops of `cutting::take_each` keep true, and what falls. Assumes nothing.
-use Prim.Native.Nat.{◌-◌}
-use lib.ListN.{length}
+-- What the loop of `cutting::take_each` keeps true. Assumes nothing.
 use Rattle.cutting.proofs.Steps.{Way}
 use Rattle.cutting.proofs.take_each.Given as goal
 
-abbrev pub invariant-loop-i : goal.invariant-loop-i
-invariant-loop-i l = Way l.piece l.initial.at l.initial.table l.initial.held l.i l.at l.table l.held
-
-abbrev pub decreases-loop-i : goal.decreases-loop-i
-decreases-loop-i l = length l.piece - l.i
+abbrev pub invariant-loop-b : goal.invariant-loop-b
+invariant-loop-b l = Way l.piece l.initial.at l.initial.table l.initial.held l.b-index l.at l.table l.held

@@ -1,42 +1,10 @@
 -- `distances::add_squares` meets its contract. The sums before j have row k's square, and those from j on not yet. Assumes nothing.
 use native.Mathlib.Omega.{arith}
-use Rattle.lent.proofs.Fill.{filling}
+use Rattle.lent.proofs.Held.{held_step, held_rest}
 use Rattle.distances.proofs.Laws.{squares_term}
-use Rattle.lent.proofs.Held.{held_none, held_step, held_rest, held_end}
 use Rattle.distances.proofs.add_squares.Goals as goal
-
-pub overflow_add-j : goal.overflow_add-j
-overflow_add-j c = search filling
-
-pub loop-j-init : goal.loop-j-init
-loop-j-init c =
-    (search filling, search filling, held_none _ _ _ (omega (arith, c.requires.held.size)), c.requires.held)
-
-pub at-requires : goal.at-requires
-at-requires c = search filling
-
-pub offset_bounds-sums-j : goal.offset_bounds-sums-j
-offset_bounds-sums-j c = search filling
-
-pub bounds-sums-j : goal.bounds-sums-j
-bounds-sums-j c = search filling
-
-pub offset_bounds-sums-j-in-loop-j : goal.offset_bounds-sums-j-in-loop-j
-offset_bounds-sums-j-in-loop-j c = search filling
-
-pub bounds-sums-j-in-loop-j : goal.bounds-sums-j-in-loop-j
-bounds-sums-j-in-loop-j c = search filling
-
-pub overflow_add-j-in-loop-j : goal.overflow_add-j-in-loop-j
-overflow_add-j-in-loop-j c = search filling
-
-pub loop-j-smaller : goal.loop-j-smaller
-loop-j-smaller c = search filling
 
 pub loop-j-preserved : goal.loop-j-preserved
 loop-j-preserved c =
-    let t = squares_term _ _ _ _ _ _ _ _ c.loop-j.invariant.3 c.loop-j-test.true c.at.ensures in
-    (search filling, search filling, held_step _ _ _ _ _ c.loop-j.invariant.2 t (omega (arith, c.loop-j.invariant.3.size)), held_rest _ _ _ _ _ c.loop-j.invariant.3)
-
-pub returns : goal.returns
-returns c = held_end _ _ _ _ _ c.loop-j.invariant.2 c.loop-j-test.false
+    let t = squares_term _ _ _ _ _ _ _ _ c.loop-j.invariant.1 (omega arith) c.at.ensures in
+    (held_step _ _ _ _ _ c.loop-j.invariant.0 t (omega (arith, c.loop-j.invariant.1.size)), held_rest _ _ _ _ _ c.loop-j.invariant.1)

@@ -1,19 +1,9 @@
 -- `distances::distance_cell` meets its contract. Assumes nothing.
 use mathlib.Core.Path.{sym, ap, ◌∙◌}
 use lib.Ieee.{binary64, to_bits}
-use Rattle.lent.proofs.Fill.{filling}
 use Rattle.distances.specs.Distances.{distance_cell}
 use Rattle.distances.proofs.Laws.{distance_across}
 use Rattle.distances.proofs.distance_cell.Goals as goal
-
-pub at-x-requires : goal.at-x-requires
-at-x-requires c = search filling
-
-pub at-requires : goal.at-requires
-at-requires c = search filling
-
-pub at-requires-then-to_bits : goal.at-requires-then-to_bits
-at-requires-then-to_bits c = search filling
 
 pub returns-then-to_bits : goal.returns-then-to_bits
 returns-then-to_bits c =

@@ -1,34 +1,17 @@
--- `fractions::all_in_range` meets its contract. What is left from place i on decides. Assumes nothing.
-use mathlib.Core.Path.{refl, sym, ◌∙◌}
-use native.Mathlib.Omega.{arith}
-use lib.Ieee.{nan}
+-- `fractions::all_in_range` meets its contract. Assumes nothing.
+use Rattle.std.proofs.Common.{rules, List, [], ◌∷◌, Float, Bool, ◌≡◌, ◌&&◌, refl, ap, ◌∙◌}
+use Rattle.std.proofs.lemmas.Iterator.{YieldsList-from_slice}
+use Rattle.std.proofs.lemmas.Iterator.Search.{all_from_yields_List}
+use Rattle.std.specs.List.{list_all}
+use borrow.Author.Tests.{tests}
+use Rattle.fields.specs.Split.{all}
 use Rattle.fractions.specs.Fractions.{in_range}
-use Rattle.fields.proofs.Every.{all_end, all_yes, all_no}
 use Rattle.fractions.proofs.all_in_range.Goals as goal
 
-pub loop-i-init : goal.loop-i-init
-loop-i-init c = (omega arith, refl)
-
-pub offset_bounds-weights-i : goal.offset_bounds-weights-i
-offset_bounds-weights-i c = omega arith
-
-pub bounds-weights-i : goal.bounds-weights-i
-bounds-weights-i c = omega arith
-
-pub returns-then-not-in_range : goal.returns-then-not-in_range
-returns-then-not-in_range c =
-    sym (c.loop-i.invariant.1 ∙ all_no in_range _ c.loop-i.i nan (omega arith) (sym c.in_range.ensures ∙ c.if-not-in_range.true))
-
-pub overflow_add-i : goal.overflow_add-i
-overflow_add-i c = omega arith
-
-pub loop-i-smaller : goal.loop-i-smaller
-loop-i-smaller c = omega arith
-
-pub loop-i-preserved : goal.loop-i-preserved
-loop-i-preserved c =
-    (omega arith, c.loop-i.invariant.1 ∙ all_yes in_range _ c.loop-i.i nan (omega arith) (sym c.in_range.ensures ∙ c.if-not-in_range.false))
+is_all : (f : Float → Bool) (l : List Float) → list_all f l ≡ all f l
+unfolding all
+is_all f [] = refl
+is_all f (x ∷ l) = ap (λ (b : Bool). f x && b) (is_all f l)
 
 pub returns : goal.returns
-returns c =
-    sym (c.loop-i.invariant.1 ∙ all_end in_range _ c.loop-i.i (omega arith))
+returns c = all_from_yields_List in_range _ _ _ c.all.ensures.ran (YieldsList-from_slice c.args.weights.now cc) (λ x b q k. search (rules, tests)) ∙ is_all in_range c.args.weights.now

@@ -1,5 +1,4 @@
--- What the loops of `fractions::measure` keep true, and what falls. Assumes nothing.
-use Prim.Native.Nat.{◌-◌, ◌≤◌}
+-- What the loop of `fractions::measure` keeps true. Assumes nothing.
 use mathlib.Core.Path.{◌≡◌}
 use lib.ListN.{length}
 use Rattle.lent.specs.Grid.{tab, over}
@@ -9,7 +8,4 @@ use Rattle.fractions.proofs.measure.Given as goal
 
 abbrev pub invariant-loop-i : goal.invariant-loop-i
 invariant-loop-i l =
-    (l.i ≤ length l.weights) × (length l.wholes ≡ length l.initial.wholes) × (l.wholes ≡ over (tab l.i (whole_at l.weights)) l.initial.wholes) × Keyed l.weights l.i l.tops l.lows
-
-abbrev pub decreases-loop-i : goal.decreases-loop-i
-decreases-loop-i l = length l.weights - l.i
+    (length l.wholes ≡ length l.initial.wholes) × (l.wholes ≡ over (tab l.i (whole_at l.weights)) l.initial.wholes) × Keyed l.weights l.i l.left

@@ -1,4 +1,4 @@
--- What the loops of `fractions::normal` keep true, and what falls. Assumes nothing.
+-- What the loop of `fractions::normal` keeps true, and what falls. Assumes nothing.
 use Prim.Native.Nat.{◌+◌, ◌*◌, ◌^◌, ◌≤◌, ◌<◌}
 use mathlib.Core.Path.{◌≡◌}
 use Rattle.fractions.proofs.normal.Given as goal

@@ -1,8 +1,6 @@
 -- `fractions::parts_of` meets its contract. Assumes nothing.
 use Prim.Native.Nat.{ℕ, ◌*◌, ◌/◌, ◌%◌, ◌^◌}
 use mathlib.Core.Path.{refl, ap, ◌∙◌}
-use native.Mathlib.Omega.{arith}
-use native.Mathlib.Nat.{mod-le}
 use Rattle.arithmetic.proofs.Facts.{truth}
 use Rattle.fractions.specs.Fractions.{whole_part, left_over}
 use Rattle.fractions.proofs.Pattern.{up_to_one, units_worth}
@@ -12,13 +10,6 @@ use Rattle.fractions.proofs.parts_of.Goals as goal
 pub digits_of-d-requires : goal.digits_of-d-requires
 digits_of-d-requires c = up_to_one _ (truth c.well_formed.0.1) _ c.to_bits.ensures c.requires
 
-pub normal-left-requires : goal.normal-left-requires
-normal-left-requires c = record {
-  high0_bound = omega (arith, c.lowest.ensures, mod-le c.scaled-x.result (2 ^ c.right_of_whole-s.result), c.scaled-x.ensures, c.digits_of-d.ensures.small);
-  low0_bound = omega arith;
-  place0_bound = c.digits_of-d.ensures.low;
-}
-
 pub returns : goal.returns
 unfolding whole_part left_over
 returns c =
@@ -27,7 +18,7 @@ returns c =
     record {
       whole_is = whole_by c.digits_of-d.result.m c.digits_of-d.result.place c.digits_of-d.ensures.small c.digits_of-d.ensures.low _ _ _ c.scaled-x.ensures c.right_of_whole-s.ensures refl ∙ ap (λ (a : ℕ). a * 1000000 / 2 ^ 1074) u;
       left_is = record {
-        normal = c.normal-left.ensures.normal;
-        value = c.normal-left.ensures.value ∙ left_by c.digits_of-d.result.m c.digits_of-d.result.place c.digits_of-d.ensures.small c.digits_of-d.ensures.low _ _ _ c.scaled-x.ensures c.right_of_whole-s.ensures c.lowest.ensures ∙ ap (λ (a : ℕ). a * 1000000 % 2 ^ 1074) u;
+        normal = c.normal.ensures.normal;
+        value = c.normal.ensures.value ∙ left_by c.digits_of-d.result.m c.digits_of-d.result.place c.digits_of-d.ensures.small c.digits_of-d.ensures.low _ _ _ c.scaled-x.ensures c.right_of_whole-s.ensures c.lowest.ensures ∙ ap (λ (a : ℕ). a * 1000000 % 2 ^ 1074) u;
       };
     }

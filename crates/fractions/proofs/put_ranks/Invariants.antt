@@ -1,5 +1,4 @@
--- What the loops of `fractions::put_ranks` keep true, and what falls. Assumes nothing.
-use Prim.Native.Nat.{◌-◌, ◌≤◌}
+-- What the loop of `fractions::put_ranks` keeps true. Assumes nothing.
 use mathlib.Core.Path.{◌≡◌}
 use lib.ListN.{length}
 use Rattle.lent.specs.Grid.{tab, over}
@@ -8,7 +7,4 @@ use Rattle.fractions.specs.Inner.{value_at}
 use Rattle.fractions.proofs.put_ranks.Given as goal
 
 abbrev pub invariant-loop-i : goal.invariant-loop-i
-invariant-loop-i l = (l.i ≤ l.n) × (length l.ranks ≡ length l.initial.ranks) × (l.ranks ≡ over (tab l.i (rank_of (value_at l.tops l.lows) l.n)) l.initial.ranks)
-
-abbrev pub decreases-loop-i : goal.decreases-loop-i
-decreases-loop-i l = l.n - l.i
+invariant-loop-i l = (length l.ranks ≡ length l.initial.ranks) × (l.ranks ≡ over (tab l.i (rank_of (value_at l.left) (length l.left))) l.initial.ranks)

@@ -1,7 +1,7 @@
 -- The proof of the cycle of calls {nodes_below}. The measure is the node's id, which is less at each child. What is asked of lists is in `Nodes`. Assumes nothing.
 use native.Mathlib.Omega.{arith}
 use Rattle.tree.proofs.Tree.{row_fits, left_falls, right_falls}
-use Rattle.groups.proofs.Nodes.{room_first, headed_some, wrote_leaf, ready_left, mid_size, left_fits, ready_right, wrote_fork, kept_fork, total_fits}
+use Rattle.groups.proofs.Nodes.{room_first, headed_some, wrote_leaf, ready_left, mid_size, left_fits, ready_right, wrote_fork, total_fits}
 use Rattle.groups.proofs.+nodes_below.Goals as goal
 
 pub bounds-out-0 : goal.bounds-out-0
@@ -10,20 +10,11 @@ bounds-out-0 t c = room_first c.requires
 pub returns-then-at-n : goal.returns-then-at-n
 returns-then-at-n t c = wrote_leaf c.requires c.if-at-n.true
 
-pub overflow_mul-left : goal.overflow_mul-left
-overflow_mul-left t c = omega (arith, row_fits c.requires.on c.if-at-n.false)
-
 pub offset_bounds-rows-k : goal.offset_bounds-rows-k
 offset_bounds-rows-k t c = omega (arith, row_fits c.requires.on c.if-at-n.false)
 
 pub bounds-rows-k : goal.bounds-rows-k
 bounds-rows-k t c = omega (arith, row_fits c.requires.on c.if-at-n.false)
-
-pub overflow_mul-right : goal.overflow_mul-right
-overflow_mul-right t c = omega (arith, row_fits c.requires.on c.if-at-n.false)
-
-pub overflow_add-right : goal.overflow_add-right
-overflow_add-right t c = omega (arith, row_fits c.requires.on c.if-at-n.false)
 
 pub offset_bounds-rows-k-2 : goal.offset_bounds-rows-k-2
 offset_bounds-rows-k-2 t c = omega (arith, row_fits c.requires.on c.if-at-n.false)
@@ -57,9 +48,6 @@ nodes_below-r-requires t c = (omega (arith, right_falls c.requires.on c.if-at-n.
 
 pub overflow_add-result : goal.overflow_add-result
 overflow_add-result t c = omega (arith, total_fits c.requires c.if-at-n.false c.nodes_below-l.ensures c.nodes_below-r.ensures, c.well_formed.1.1.1.0.0)
-
-pub shape_of-out : goal.shape_of-out
-shape_of-out t c = kept_fork c.requires c.if-at-n.false c.nodes_below-l.ensures c.nodes_below-r.ensures
 
 pub returns : goal.returns
 returns t c = wrote_fork c.requires c.if-at-n.false c.nodes_below-l.ensures c.nodes_below-r.ensures

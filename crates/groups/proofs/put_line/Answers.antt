@@ -1,21 +1,11 @@
 -- `groups::put_line` meets its contract. Assumes nothing.
-use mathlib.Core.Path.{◌∙◌}
 use lib.ListN.{length}
 use Rattle.listing.specs.Listing.{name_in}
-use Rattle.groups.proofs.Lines.{plain_room, plain_put, indent_room, fields_room, tag_room, named_put}
+use Rattle.groups.proofs.Lines.{plain_put, fields_room, tag_room, named_put}
 use Rattle.groups.proofs.put_line.Goals as goal
-
-pub put_fields-counted-requires : goal.put_fields-counted-requires
-put_fields-counted-requires c = plain_room (name_in c.args.text.now c.args.starts.now) (length c.args.starts.now) c.args.v c.args.group c.args.named c.args.out.now c.args.at c.requires.named_in_bounds c.if-not-named.true
-
-pub shape_of-out-then-not-named : goal.shape_of-out-then-not-named
-shape_of-out-then-not-named c = c.put_byte.auto.out ∙ c.put_fields-counted.auto.out
 
 pub returns-then-not-named : goal.returns-then-not-named
 returns-then-not-named c = plain_put (name_in c.args.text.now c.args.starts.now) (length c.args.starts.now) c.args.v c.args.group c.args.named c.args.out.now c.args.at c.requires.named_in_bounds c.if-not-named.true c.put_fields-counted.ensures c.put_byte.ensures
-
-pub put_indent-indented-requires : goal.put_indent-indented-requires
-put_indent-indented-requires c = indent_room (name_in c.args.text.now c.args.starts.now) (length c.args.starts.now) c.args.v c.args.group c.args.named c.args.out.now c.args.at c.requires.named_in_bounds c.if-not-named.false c.requires.depth_bound
 
 pub put_fields-counted-requires-2 : goal.put_fields-counted-requires-2
 put_fields-counted-requires-2 c = fields_room (name_in c.args.text.now c.args.starts.now) (length c.args.starts.now) c.args.v c.args.group c.args.named c.args.out.now c.args.at c.requires.named_in_bounds c.if-not-named.false c.requires.depth_bound c.put_indent-indented.ensures
@@ -25,9 +15,6 @@ put_tag-tagged-requires c = record {
   named = c.requires.named;
   at_in_bounds = tag_room (name_in c.args.text.now c.args.starts.now) (length c.args.starts.now) c.args.v c.args.group c.args.named c.args.out.now c.args.at c.requires.named_in_bounds c.if-not-named.false c.requires.depth_bound c.put_indent-indented.ensures c.put_fields-counted-2.ensures;
 }
-
-pub shape_of-out : goal.shape_of-out
-shape_of-out c = c.put_byte-2.auto.out ∙ c.put_tag-tagged.auto.out ∙ c.put_fields-counted-2.auto.out ∙ c.put_indent-indented.auto.out
 
 pub returns : goal.returns
 returns c = named_put (name_in c.args.text.now c.args.starts.now) (length c.args.starts.now) c.args.v c.args.group c.args.named c.args.out.now c.args.at c.requires.named_in_bounds c.if-not-named.false c.requires.depth_bound c.put_indent-indented.ensures c.put_fields-counted-2.ensures (λ h. c.requires.named.short _ h) c.put_tag-tagged.ensures c.put_byte-2.ensures

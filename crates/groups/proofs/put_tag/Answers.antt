@@ -1,6 +1,6 @@
 -- `groups::put_tag` meets its contract. Assumes nothing.
 use native.Mathlib.Omega.{arith}
-use mathlib.Core.Path.{◌∙◌, ap}
+use mathlib.Core.Path.{ap}
 use lib.ListN.{length}
 use Rattle.listing.specs.Listing.{name_in}
 use Rattle.groups.proofs.Lines.{tag_none, tag_put}
@@ -8,15 +8,6 @@ use Rattle.groups.proofs.put_tag.Goals as goal
 
 pub returns-then-v-starts : goal.returns-then-v-starts
 returns-then-v-starts c = tag_none _ _ _ _ _ (omega (arith, c.if-v-starts.true)) (omega (arith, c.requires.at_in_bounds))
-
-pub offset_bounds-starts-v : goal.offset_bounds-starts-v
-offset_bounds-starts-v c = omega arith
-
-pub bounds-starts-v : goal.bounds-starts-v
-bounds-starts-v c = omega arith
-
-pub shape_of-out : goal.shape_of-out
-shape_of-out c = c.put_bytes.auto.out ∙ c.put_byte-tabbed.auto.out
 
 pub returns : goal.returns
 unfolding name_in

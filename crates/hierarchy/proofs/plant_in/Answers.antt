@@ -3,6 +3,7 @@ use Prim.Native.Nat.{◌*◌}
 use mathlib.Core.Path.{sym}
 use native.Mathlib.Omega.{arith}
 use lib.Seq.{length-take-le, length_front}
+use Rattle.std.proofs.lemmas.Result.{err_from_is_err_and}
 use Rattle.lent.proofs.Laws.{square_in}
 use Rattle.hierarchy.proofs.Laws.{planted_low, planted}
 use Rattle.hierarchy.proofs.plant_in.Goals as goal
@@ -16,12 +17,10 @@ slice_bounds-cov2corr-end c = c.requires.for_corr
 pub slice_bounds-cov2corr-end-2 : goal.slice_bounds-cov2corr-end-2
 slice_bounds-cov2corr-end-2 c = sym (length-take-le _ _ c.requires.for_corr)
 
-pub shape_of-corr-in_default : goal.shape_of-corr-in_default
-shape_of-corr-in_default c = length_front c.args.corr.now c.cov2corr.new.out (c.args.n * c.args.n) c.cov2corr.auto.out
-
-pub returns-in_default : goal.returns-in_default
-returns-in_default c =
-    planted_low c.args.distance c.args.linkage c.args.covariance.now c.args.n _ _ _ _ _ _ _ c.requires (length-take-le _ _ c.requires.for_corr) c.cov2corr.ensures.value c.told-low.ensures _ _ _ c.in_default.is
+pub returns-in_err-cov2corr : goal.returns-in_err-cov2corr
+returns-in_err-cov2corr c =
+    let e = err_from_is_err_and c.from_residual.result c.from_residual.ensures.1 in
+    rw (e.1, e.2) (planted_low c.args.distance c.args.linkage c.args.covariance.now c.args.n _ _ _ _ _ _ c.requires (length-take-le _ _ c.requires.for_corr) c.cov2corr.ensures.value _ _ _ c.in_err-cov2corr.was)
 
 pub slice_bounds-arrange-end : goal.slice_bounds-arrange-end
 slice_bounds-arrange-end c = omega (arith, c.requires.for_corr, length_front c.args.corr.now c.cov2corr.new.out (c.args.n * c.args.n) c.cov2corr.auto.out)
@@ -32,18 +31,6 @@ slice_bounds-arrange-end-3 c = c.requires.for_scratch
 pub slice_bounds-arrange-end-4 : goal.slice_bounds-arrange-end-4
 slice_bounds-arrange-end-4 c = sym (length-take-le _ _ c.requires.for_scratch)
 
-pub shape_of-corr : goal.shape_of-corr
-shape_of-corr c = length_front c.args.corr.now c.cov2corr.new.out (c.args.n * c.args.n) c.cov2corr.auto.out
-
-pub shape_of-scratch : goal.shape_of-scratch
-shape_of-scratch c = length_front c.args.scratch.now c.arrange.new.distances (c.args.n * c.args.n) c.arrange.auto.distances
-
-pub shape_of-tree : goal.shape_of-tree
-shape_of-tree c = c.arrange.auto.rows
-
-pub shape_of-leaves : goal.shape_of-leaves
-shape_of-leaves c = c.arrange.auto.order
-
 pub returns : goal.returns
 returns c =
-    planted c.args.distance c.args.linkage c.args.covariance.now c.args.n _ _ _ _ _ _ _ c.requires (length-take-le _ _ c.requires.for_corr) c.cov2corr.ensures.value c.told-low.ensures _ _ c.cov2corr.auto.out c.cov2corr.ensures.out_after c.in-Done.is _ _ _ _ _ (length-take-le _ _ c.requires.for_scratch) c.arrange.ensures
+    planted c.args.distance c.args.linkage c.args.covariance.now c.args.n _ _ _ _ _ _ c.requires (length-take-le _ _ c.requires.for_corr) c.cov2corr.ensures.value _ _ c.cov2corr.auto.out c.cov2corr.ensures.out_after _ c.in_ok-cov2corr.was _ _ _ _ _ (length-take-le _ _ c.requires.for_scratch) c.arrange.ensures

@@ -8,11 +8,11 @@ use Rattle.job.proofs.Jobs.{sized, cells_fit, starts_fit, limits_fit, held, plac
 use Rattle.job.proofs.text_to.Goals as goal
 
 pub shape_of-out-then-out-least_for : goal.shape_of-out-then-out-least_for
-shape_of-out-then-out-least_for c = c.clear_bytes_from.auto.out
+shape_of-out-then-out-least_for c = c.clear.auto.out
 
 pub returns-then-out-least_for : goal.returns-then-out-least_for
 returns-then-out-least_for c =
-    told_short _ _ _ (omega (arith, c.if-out-least_for.true, c.least_for.ensures, c.clear_bytes_from.auto.out)) _ _ (simp unary_clauses at c.clear_bytes_from.ensures) c.unlisted.ensures
+    told_short _ _ _ (omega (arith, c.if-out-least_for.true, c.least_for.ensures, c.clear.auto.out)) _ _ c.clear.ensures c.unlisted.ensures
 
 pub overflow_mul-k : goal.overflow_mul-k
 overflow_mul-k c = omega (arith, (sized _ _ _ _ _ c.read_job-read.ensures _ c.block_of-block.ensures).cells_few)
@@ -42,11 +42,11 @@ pub finish-requires : goal.finish-requires
 finish-requires c = record {
   placed = placed _ _ _ _ _ c.read_job-read.ensures _ c.block_of-block.ensures _ c.ceilings_in-limits.ensures;
   allotted = c.allocate-found.ensures;
-  blank_listing = cleared _ _ _ (simp unary_clauses at c.clear_bytes_from.ensures) c.clear_bytes_from.auto.out (omega (arith, c.if-out-least_for.false, c.least_for.ensures));
+  blank_listing = cleared _ _ _ c.clear.ensures c.clear.auto.out (omega (arith, c.if-out-least_for.false, c.least_for.ensures));
 }
 
 pub shape_of-out : goal.shape_of-out
-shape_of-out c = c.finish.auto.out ∙ c.clear_bytes_from.auto.out
+shape_of-out c = c.finish.auto.out ∙ c.clear.auto.out
 
 pub returns : goal.returns
-returns c = told_room _ _ _ _ _ _ c.clear_bytes_from.auto.out c.finish.ensures
+returns c = told_room _ _ _ _ _ _ c.clear.auto.out c.finish.ensures

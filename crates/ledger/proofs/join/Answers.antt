@@ -9,4 +9,4 @@ overflow_add-result c = omega (arith, beyond_no c.args.p c.args.h c.requires)
 
 pub returns : goal.returns
 unfolding added
-returns c = rw (c.jobs_after.ensures, c.lesser.ensures, c.greater.ensures)
+returns c = rw (c.jobs_after.ensures, c.min.ensures, c.max.ensures)

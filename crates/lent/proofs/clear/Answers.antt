@@ -3,4 +3,4 @@ use native.Mathlib.Numerals.{unary_clauses}
 use Rattle.lent.proofs.clear.Goals as goal
 
 pub returns : goal.returns
-returns c = simp unary_clauses at c.clear_from.ensures
+returns g c = simp unary_clauses at c.clear_from.ensures

@@ -1,19 +1,13 @@
 -- `lent::clear_from` meets its contract: the loop clears one entry a turn. Assumes nothing.
-use native.Mathlib.Omega.{arith}
+use Rattle.std.proofs.Common.{arith}
 use Rattle.lent.proofs.Clearing.{clearing_start, clearing_step, clearing_end}
 use Rattle.lent.proofs.clear_from.Goals as goal
 
 pub loop-i-init : goal.loop-i-init
-loop-i-init c = clearing_start _ _ _
-
-pub loop-i-smaller : goal.loop-i-smaller
-loop-i-smaller c = omega (arith, c.loop-i.invariant.same)
+loop-i-init g c = clearing_start _ _ _
 
 pub loop-i-preserved : goal.loop-i-preserved
-loop-i-preserved c = clearing_step c.loop-i.invariant c.loop-i-test.true
-
-pub shape_of-out : goal.shape_of-out
-shape_of-out c = c.loop-i.invariant.same
+loop-i-preserved g c = rw c.ZERO.ensures (clearing_step c.loop-i.invariant (omega (arith, c.loop-i.auto.out)))
 
 pub returns : goal.returns
-returns c = clearing_end c.loop-i.invariant c.loop-i-test.false
+returns g c = clearing_end c.loop-i.invariant (omega (arith, c.loop-i.auto.out))

@@ -11,21 +11,9 @@ use Rattle.linkage.proofs.move_all.Goals as goal
 pub loop-j-init : goal.loop-j-init
 loop-j-init c = (search rules, sym (range_none _ _ _ _ (search rules)), refl)
 
-pub offset_bounds-slots-j : goal.offset_bounds-slots-j
-offset_bounds-slots-j c = omega arith
-
-pub bounds-slots-j : goal.bounds-slots-j
-bounds-slots-j c = omega arith
-
 pub move_one-requires : goal.move_one-requires
 move_one-requires c =
     (c.requires.0, c.requires.2 c.loop-j.j (omega arith), c.requires.3, omega (arith, c.requires.4, c.loop-j.invariant.2), c.requires.5)
-
-pub overflow_step-j : goal.overflow_step-j
-overflow_step-j c = omega arith
-
-pub loop-j-smaller : goal.loop-j-smaller
-loop-j-smaller c = omega arith
 
 pub loop-j-preserved : goal.loop-j-preserved
 unfolding drawn_at
@@ -35,9 +23,6 @@ loop-j-preserved c =
       c.move_one.ensures ∙ ap (f c.loop-j.j) c.loop-j.invariant.1 ∙ sym (range_more f 0 c.loop-j.j c.args.d.now (search rules)),
       ap length c.move_one.ensures ∙ length_drawn c.args.method c.args.form c.args.n c.args.sizes.now c.args.pair.x.0 c.args.pair.y.0 c.args.pair.dxy (get_or c.args.slots.now c.loop-j.j 0) c.loop-j.d ∙ c.loop-j.invariant.2,
     )
-
-pub shape_of-d : goal.shape_of-d
-shape_of-d c = c.loop-j.invariant.2
 
 pub returns : goal.returns
 returns c = range_end _ _ _ _ _ _ c.loop-j.invariant.1 c.loop-j.invariant.0 (omega arith)

@@ -5,6 +5,7 @@ use mathlib.Core.Path.{sym}
 use Rattle.triangle.proofs.Within.{within}
 use Rattle.linkage.specs.Inner.{drawn}
 use Rattle.linkage.proofs.Forms.{drawn_by}
+use Rattle.linkage.proofs.move_one.Goals.{else-i-p-via-then-i-p+else-i-q, else-i-p-via-else-i-p}
 use Rattle.linkage.proofs.move_one.Goals as goal
 
 pub offset_bounds-d-k : goal.offset_bounds-d-k
@@ -18,10 +19,10 @@ returns-then-i-q c =
     drawn_by c.args.method c.args.form c.args.n c.args.sizes.now c.args.pair c.args.other.0 _ c.args.d.now _ _ _ c.requires.4 c.if-i-p.true c.if-i-q.true
     c.place-k.ensures c.at.ensures c.update-v.ensures c.put_both.ensures
 
-pub returns-else-i-q : goal.returns-else-i-q
-unfolding drawn
-returns-else-i-q c = rw (ne_eqb _ _ c.if-i-p.true, eq-eqb _ _ c.if-i-q.false)
-
 pub returns-else-i-p : goal.returns-else-i-p
 unfolding drawn
-returns-else-i-p c = rw (eq-eqb _ _ c.if-i-p.false)
+returns-else-i-p c =
+    elim c.else-i-p.branch [
+      | else-i-p-via-then-i-p+else-i-q w ↦ rw (ne_eqb _ _ w.if-i-p.true, eq-eqb _ _ w.if-i-q.false)
+      | else-i-p-via-else-i-p w ↦ rw (eq-eqb _ _ w.if-i-p.false)
+    ]

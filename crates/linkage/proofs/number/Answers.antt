@@ -9,18 +9,6 @@ use Rattle.linkage.proofs.number.Goals as goal
 pub loop-k-init : goal.loop-k-init
 loop-k-init c = (search rules, sym (range_none _ _ _ _ (search rules)))
 
-pub offset_bounds-ids-k : goal.offset_bounds-ids-k
-offset_bounds-ids-k c = omega arith
-
-pub bounds-ids-k : goal.bounds-ids-k
-bounds-ids-k c = omega arith
-
-pub overflow_step-k : goal.overflow_step-k
-overflow_step-k c = omega arith
-
-pub loop-k-smaller : goal.loop-k-smaller
-loop-k-smaller c = omega arith
-
 pub loop-k-preserved : goal.loop-k-preserved
 unfolding numbered
 loop-k-preserved c =

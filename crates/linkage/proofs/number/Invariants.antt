@@ -1,5 +1,5 @@
--- What the loops of `linkage::number` keep true, and what falls. Assumes nothing.
-use Prim.Native.Nat.{◌-◌, ◌≤◌}
+-- What the loop of `linkage::number` keeps true. Assumes nothing.
+use Prim.Native.Nat.{◌≤◌}
 use mathlib.Core.Path.{◌≡◌}
 use Rattle.lent.specs.Range.{range}
 use Rattle.linkage.specs.Inner.{numbered}
@@ -7,6 +7,3 @@ use Rattle.linkage.proofs.number.Given as goal
 
 abbrev pub invariant-loop-k : goal.invariant-loop-k
 invariant-loop-k l = (l.k ≤ l.n) × (l.ids ≡ range numbered 0 l.k l.initial.ids)
-
-abbrev pub decreases-loop-k : goal.decreases-loop-k
-decreases-loop-k l = l.n - l.k

@@ -9,27 +9,9 @@ use Rattle.triangle.proofs.Places.{less_off}
 use Rattle.linkage.proofs.Packed.{Found, row_found, reached_start, reached_next, reached_low, reached_end}
 use Rattle.linkage.proofs.scan_all.Goals as goal
 
-pub bounds-slots-0 : goal.bounds-slots-0
-bounds-slots-0 c = omega arith
-
-pub bounds-slots-1 : goal.bounds-slots-1
-bounds-slots-1 c = omega arith
-
 pub at-requires : goal.at-requires
 at-requires c =
     (c.requires.0, c.requires.3 0 (omega arith), c.requires.3 1 (omega arith), less_off _ _ (c.requires.4 0 1 (omega arith) (omega arith)), c.requires.5, c.requires.6)
-
-pub offset_bounds-ids-a : goal.offset_bounds-ids-a
-offset_bounds-ids-a c = omega (arith, c.requires.3 0 (omega arith))
-
-pub bounds-ids-a : goal.bounds-ids-a
-bounds-ids-a c = omega (arith, c.requires.3 0 (omega arith))
-
-pub offset_bounds-ids-b : goal.offset_bounds-ids-b
-offset_bounds-ids-b c = omega (arith, c.requires.3 1 (omega arith))
-
-pub bounds-ids-b : goal.bounds-ids-b
-bounds-ids-b c = omega (arith, c.requires.3 1 (omega arith))
 
 pub loop-i-init : goal.loop-i-init
 loop-i-init c =
@@ -44,15 +26,6 @@ pub overflow_add-pairs : goal.overflow_add-pairs
 overflow_add-pairs c =
     let r = reached_low (held_at c.args.form c.args.n c.args.d.now) c.args.ids.now c.args.slots.now c.args.m c.loop-i.i c.loop-i.best c.loop-i.pairs c.loop-i.from c.loop-i.invariant.1 (omega arith) c.requires.1 c.requires.2 in
     omega (arith, r, c.scan_row-row.ensures.1, c.requires.2)
-
-pub overflow_add-from : goal.overflow_add-from
-overflow_add-from c = omega (arith, c.requires.2)
-
-pub overflow_step-i : goal.overflow_step-i
-overflow_step-i c = omega (arith, c.requires.2)
-
-pub loop-i-smaller : goal.loop-i-smaller
-loop-i-smaller c = omega arith
 
 pub loop-i-preserved : goal.loop-i-preserved
 loop-i-preserved c =

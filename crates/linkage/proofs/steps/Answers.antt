@@ -25,9 +25,6 @@ loop-k-init c = (
   refl,
 )
 
-pub overflow_sub-n : goal.overflow_sub-n
-overflow_sub-n c = omega (arith, c.merges-k-end.ensures, c.loop-k-test.true, c.loop-k.invariant.0)
-
 pub step_once-pairs-requires : goal.step_once-pairs-requires
 step_once-pairs-requires c =
     let b : c.loop-k.k + 2 ≤ c.args.n = omega (arith, c.merges-k-end.ensures, c.loop-k-test.true, c.loop-k.invariant.0) in (
@@ -48,12 +45,6 @@ overflow_add-pairs c =
     let b : c.loop-k.k + 2 ≤ c.args.n = omega (arith, c.merges-k-end.ensures, c.loop-k-test.true, c.loop-k.invariant.0) in
     omega (arith, b, c.requires.0, c.loop-k.invariant.5, c.step_once-pairs.ensures.3, pairs_least c.args.method c.args.n c.args.xs.now c.requires.0 c.loop-k.k (omega arith), met_least (c.args.n - c.loop-k.k) (c.args.n - c.loop-k.k) (omega (arith, c.requires.0)))
 
-pub overflow_step-k : goal.overflow_step-k
-overflow_step-k c = omega (arith, c.merges-k-end.ensures, c.loop-k-test.true, c.requires.0)
-
-pub loop-k-smaller : goal.loop-k-smaller
-loop-k-smaller c = omega (arith, c.loop-k-test.true)
-
 pub loop-k-preserved : goal.loop-k-preserved
 loop-k-preserved c =
     let b : c.loop-k.k + 2 ≤ c.args.n = omega (arith, c.merges-k-end.ensures, c.loop-k-test.true, c.loop-k.invariant.0) in (
@@ -65,12 +56,6 @@ loop-k-preserved c =
       omega (arith, c.loop-k.invariant.5, c.step_once-pairs.ensures.3, pairs_more c.args.method c.args.n c.args.xs.now c.requires.0 c.loop-k.k (omega arith)),
       c.step_once-pairs.auto.d ∙ c.loop-k.invariant.6,
     )
-
-pub shape_of-d : goal.shape_of-d
-shape_of-d c = c.loop-k.invariant.6
-
-pub shape_of-rows : goal.shape_of-rows
-shape_of-rows c = c.loop-k.invariant.1
 
 pub returns : goal.returns
 unfolding merge_rows pairs_visited

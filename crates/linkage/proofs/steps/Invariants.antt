@@ -1,4 +1,4 @@
--- What the loops of `linkage::steps` keep true, and what falls. Assumes nothing.
+-- What the loop of `linkage::steps` keeps true. Assumes nothing.
 use Prim.Native.Nat.{◌-◌, ◌*◌, ◌≤◌}
 use mathlib.Core.Path.{◌≡◌}
 use lib.ListN.{length, take, drop}
@@ -12,6 +12,3 @@ invariant-loop-k l =
     (l.k ≤ l.n - 1) × (length l.rows ≡ length l.initial.rows) × (length l.slots ≡ 64)
     × Shown l.form l.n (state_at l.method l.n l.xs l.k) l.d l.ids (take (l.n - l.k) l.slots) l.sizes (take (2 * l.k) l.rows)
     × (drop (2 * l.k) l.rows ≡ drop (2 * l.k) l.initial.rows) × (l.pairs ≡ pairs_at l.method l.n l.xs l.k) × (length l.d ≡ length l.initial.d)
-
-abbrev pub decreases-loop-k : goal.decreases-loop-k
-decreases-loop-k l = l.k-end - l.k

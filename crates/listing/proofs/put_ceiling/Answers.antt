@@ -1,13 +1,9 @@
 -- `listing::put_ceiling` meets its contract: no write, or two. Assumes nothing.
-use mathlib.Core.Path.{◌∙◌}
 use Rattle.listing.proofs.Lines.{ceiling_none, ceiling_put}
 use Rattle.listing.proofs.put_ceiling.Goals as goal
 
-pub returns-in-Absent : goal.returns-in-Absent
-returns-in-Absent c = ceiling_none _ c.in-Absent.is
+pub returns-in_default : goal.returns-in_default
+returns-in_default c = ceiling_none _ c.in_default.is
 
-pub shape_of-out : goal.shape_of-out
-shape_of-out c = c.put_decimal.auto.out ∙ c.put_byte-tabbed.auto.out
-
-pub returns-in-At : goal.returns-in-At
-returns-in-At c = ceiling_put _ _ c.in-At.is c.put_byte-tabbed.ensures c.put_decimal.ensures
+pub returns : goal.returns
+returns c = ceiling_put _ _ c.in-Some.is c.put_byte-tabbed.ensures c.put_decimal.ensures

@@ -1,5 +1,5 @@
--- What the loops of `millionths::fill` keep true, and what falls. Assumes nothing.
-use Prim.Native.Nat.{ℕ, ◌+◌, ◌-◌, ◌≤◌}
+-- What the loop of `millionths::fill` keeps true. Assumes nothing.
+use Prim.Native.Nat.{ℕ, ◌+◌}
 use mathlib.Core.Path.{◌≡◌}
 use mathlib.Core.List.{List}
 use lib.Dec.{ltb}
@@ -12,7 +12,4 @@ abbrev pub served : List ℕ → List ℕ → ℕ → ℕ → ℕ
 served wholes ranks missing i = get_or wholes i 0 + one (ltb (get_or ranks i 0) missing)
 
 abbrev pub invariant-loop-i : goal.invariant-loop-i
-invariant-loop-i l = (l.i ≤ l.n) × (length l.out ≡ length l.initial.out) × (l.out ≡ over (tab l.i (served l.wholes l.ranks l.missing)) l.initial.out)
-
-abbrev pub decreases-loop-i : goal.decreases-loop-i
-decreases-loop-i l = l.n - l.i
+invariant-loop-i l = (length l.out ≡ length l.initial.out) × (l.out ≡ over (tab l.i (served l.wholes l.ranks l.missing)) l.initial.out)

@@ -5,8 +5,8 @@ use Rattle.month.specs.Calls.{tally_of}
 use Rattle.month.proofs.begin_report.Goals as goal
 
 pub shape_of-table : goal.shape_of-table
-shape_of-table c = c.clear_numbers.auto.out
+shape_of-table c = c.clear.auto.out
 
 pub returns : goal.returns
 unfolding tally_of opening
-returns c = record { answer = refl; table_is = c.clear_numbers.ensures }
+returns c = record { answer = refl; table_is = c.clear.ensures }

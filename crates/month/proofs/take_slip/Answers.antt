@@ -10,7 +10,7 @@ take_held-requires c = record {
 }
 
 pub returns-in-Other : goal.returns-in-Other
-returns-in-Other c = slip_other c.args.table.now c.args.y c.args.w.now c.args.slip c.in-Other.is
+returns-in-Other c = rw c.at_line.ensures (slip_other c.args.table.now c.args.y c.args.w.now c.args.slip c.in-Other.is)
 
 pub shape_of-table : goal.shape_of-table
 shape_of-table c = c.take_held.auto.table

@@ -4,11 +4,8 @@ use lib.Ieee.Exact.{HasValue}
 use Rattle.ordering.proofs.Nearest.{short_fits, whole_small, whole_less, whole_more, whole_tie}
 use Rattle.ordering.proofs.nearest_whole.Goals as goal
 
-pub truncating_f64_to_u64-t-requires : goal.truncating_f64_to_u64-t-requires
-truncating_f64_to_u64-t-requires c = record {
-  lower_bound = c.requires.above;
-  upper_bound = short_fits c.args.x c.requires;
-}
+pub truncating_f64_to_u64-t-requires-clause-upper_bound : goal.truncating_f64_to_u64-t-requires-clause-upper_bound
+truncating_f64_to_u64-t-requires-clause-upper_bound c = short_fits c.args.x c.requires
 
 pub half_past-half-requires : goal.half_past-half-requires
 half_past-half-requires c = let w = whole_small c.args.x c.requires in omega arith

@@ -1,13 +1,9 @@
 -- `ordering::place_of` meets its contract. Assumes nothing.
 use Rattle.std.proofs.Common.{ℕ, ◌-◌, ◌<◌, sym, subst, arith}
 use Rattle.arithmetic.specs.Arithmetic.{count_of}
-use Rattle.arithmetic.proofs.Whole.{castable}
 use Rattle.ordering.proofs.Nearest.{product, place_in}
 use Rattle.ordering.specs.Nearest.{place}
 use Rattle.ordering.proofs.place_of.Goals as goal
-
-pub int_to_float-n : goal.int_to_float-n
-int_to_float-n c = castable _ (omega arith)
 
 pub nearest_whole-requires : goal.nearest_whole-requires
 nearest_whole-requires c = (product c.args.q (c.args.n - 1) (omega arith) c.requires.part).0

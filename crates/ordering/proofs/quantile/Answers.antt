@@ -6,22 +6,22 @@ use Rattle.ordering.proofs.quantile.Goals as goal
 
 pub quantile_in-requires : goal.quantile_in-requires
 unfolding part_outcome
-quantile_in-requires c = let p = part_accepted c.args.xs.now c.args.q (sym c.judge.ensures ∙ c.in-Done.is) in
+quantile_in-requires c = let p = part_accepted c.args.xs.now c.args.q (sym c.judge.ensures ∙ c.in_default.is) in
     record {
       part = part_of_lem c.args.q p.1;
       xs_len_bound = p.0;
     }
 
-pub shape_of-xs-in-Refused : goal.shape_of-xs-in-Refused
-shape_of-xs-in-Refused c = c.clear.auto.out
+pub shape_of-xs-in-Err : goal.shape_of-xs-in-Err
+shape_of-xs-in-Err c = c.clear.auto.out
 
-pub returns-in-Refused : goal.returns-in-Refused
+pub returns-in-Err : goal.returns-in-Err
 unfolding part_outcome
-returns-in-Refused c = value_and_list (quantile_refused c.args.xs.now c.args.q _ _ _ c.judge.ensures c.in-Refused.is c.clear.ensures)
+returns-in-Err c = value_and_list (quantile_refused c.args.xs.now c.args.q _ _ _ c.judge.ensures c.in-Err.is c.clear.ensures)
 
-pub shape_of-xs-in-Done : goal.shape_of-xs-in-Done
-shape_of-xs-in-Done c = c.quantile_in.auto.xs
+pub shape_of-xs : goal.shape_of-xs
+shape_of-xs c = c.quantile_in.auto.xs
 
-pub returns-in-Done : goal.returns-in-Done
+pub returns : goal.returns
 unfolding part_outcome
-returns-in-Done c = value_and_list (quantile_done c.args.xs.now c.args.q _ _ _ c.judge.ensures c.in-Done.is (c.settled.ensures ∙ c.quantile_in.ensures.value) c.quantile_in.ensures.xs_after)
+returns c = value_and_list (quantile_done c.args.xs.now c.args.q _ _ _ c.judge.ensures c.in_default.is (c.settled.ensures ∙ c.quantile_in.ensures.value) c.quantile_in.ensures.xs_after)

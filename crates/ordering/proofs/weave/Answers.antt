@@ -1,54 +1,13 @@
 -- `ordering::weave` meets its contract. Assumes nothing.
 use Rattle.std.proofs.Common.{◌+◌, sym, ◌∙◌, arith}
-use Rattle.ordering.proofs.Merging.{Woven, woven_start, second_in, place_in, turn_second, turn_first, woven_end}
+use Rattle.ordering.proofs.Merging.{Woven, second_in, turn_second, turn_first, woven_end}
 use Rattle.ordering.proofs.weave.Goals as goal
 use Rattle.ordering.proofs.weave.Goals.{then-is_next, else-is_next}
-
-pub loop-i-init : goal.loop-i-init
-loop-i-init c = woven_start _ _ c.requires
-
-pub is_next-requires : goal.is_next-requires
-is_next-requires c = c.loop-i.invariant.within
-
-pub offset_bounds-xs-j : goal.offset_bounds-xs-j
-offset_bounds-xs-j c =
-    let h = second_in c.args.room.now c.args.xs.now c.loop-i.xs c.loop-i.i c.loop-i.j c.loop-i.k c.loop-i.invariant c.loop-i-test.true (sym c.if-is_next.true ∙ c.is_next.ensures) in
-    omega (arith, h, c.loop-i.invariant.long)
 
 pub bounds-xs-j : goal.bounds-xs-j
 bounds-xs-j c =
     let h = second_in c.args.room.now c.args.xs.now c.loop-i.xs c.loop-i.i c.loop-i.j c.loop-i.k c.loop-i.invariant c.loop-i-test.true (sym c.if-is_next.true ∙ c.is_next.ensures) in
     h
-
-pub offset_bounds-xs-k : goal.offset_bounds-xs-k
-offset_bounds-xs-k c =
-    let h = place_in c.args.room.now c.args.xs.now c.loop-i.xs c.loop-i.i c.loop-i.j c.loop-i.k c.loop-i.invariant c.loop-i-test.true in
-    omega (arith, h.1, c.loop-i.invariant.long)
-
-pub bounds-xs-k : goal.bounds-xs-k
-bounds-xs-k c =
-    let h = place_in c.args.room.now c.args.xs.now c.loop-i.xs c.loop-i.i c.loop-i.j c.loop-i.k c.loop-i.invariant c.loop-i-test.true in
-    h.1
-
-pub overflow_add-j : goal.overflow_add-j
-overflow_add-j c =
-    let h = second_in c.args.room.now c.args.xs.now c.loop-i.xs c.loop-i.i c.loop-i.j c.loop-i.k c.loop-i.invariant c.loop-i-test.true (sym c.if-is_next.true ∙ c.is_next.ensures) in
-    omega (arith, h, c.loop-i.invariant.long)
-
-pub offset_bounds-xs-k-else-is_next : goal.offset_bounds-xs-k-else-is_next
-offset_bounds-xs-k-else-is_next c =
-    let h = place_in c.args.room.now c.args.xs.now c.loop-i.xs c.loop-i.i c.loop-i.j c.loop-i.k c.loop-i.invariant c.loop-i-test.true in
-    omega (arith, h.1, c.loop-i.invariant.long)
-
-pub bounds-xs-k-else-is_next : goal.bounds-xs-k-else-is_next
-bounds-xs-k-else-is_next c =
-    let h = place_in c.args.room.now c.args.xs.now c.loop-i.xs c.loop-i.i c.loop-i.j c.loop-i.k c.loop-i.invariant c.loop-i-test.true in
-    h.1
-
-pub overflow_add-k : goal.overflow_add-k
-overflow_add-k c =
-    let h = place_in c.args.room.now c.args.xs.now c.loop-i.xs c.loop-i.i c.loop-i.j c.loop-i.k c.loop-i.invariant c.loop-i-test.true in
-    omega (arith, h.1, c.loop-i.invariant.long)
 
 -- whichever way the branch went, one entry more is in place
 joined : (c : goal.Joined-is_next) → Woven c.args.room.now c.args.xs.now c.if-is_next.xs c.if-is_next.i c.if-is_next.j (c.loop-i.k + 1)
@@ -65,9 +24,6 @@ loop-i-smaller c =
 
 pub loop-i-preserved : goal.loop-i-preserved
 loop-i-preserved c = joined c
-
-pub shape_of-xs : goal.shape_of-xs
-shape_of-xs c = c.loop-i.invariant.long
 
 pub returns : goal.returns
 returns c = woven_end _ _ _ _ _ _ c.loop-i.invariant c.loop-i-test.false

@@ -1,12 +1,10 @@
 -- `pages::judge_end` meets its contract. Assumes nothing.
-use mathlib.Core.Path.{refl, ap}
-use lib.Dec.{ltb}
-use Rattle.ledger.specs.Ledger.{most_names}
-use Rattle.refusal.proofs.Tables.{said_line, said_last}
-use Rattle.pages.specs.Pages.{page_lines}
-use Rattle.pages.proofs.Ends.{end_said}
+use Rattle.std.proofs.Common.{rules}
+use Rattle.pages.proofs.Ends.{end_out, end_on}
 use Rattle.pages.proofs.judge_end.Goals as goal
 
+pub returns-in_err-judge_page : goal.returns-in_err-judge_page
+returns-in_err-judge_page c = λ t l. let told = end_out c.args.progress c.args.cells c.args.room _ _ c.names_held.ensures c.judge_page.ensures _ c.in_err-judge_page.was t l in search (rules, told)
+
 pub returns : goal.returns
-unfolding page_lines
-returns c = end_said _ _ _ _ _ _ (said_line _ _ _ _ _ _ (ap (ltb most_names) c.names_in.ensures) (said_line _ _ _ _ _ _ refl (said_last _ _ _ _ refl c.refuse-o.ensures) c.refuse-o-2.ensures) c.refuse-o-3.ensures) c.ended.ensures c.and_then.ensures
+returns c = end_on c.args.progress c.args.cells c.args.room _ _ c.names_held.ensures c.judge_page.ensures _ c.in_ok-judge_page.was c.ended.ensures

@@ -2,7 +2,7 @@
 use mathlib.Core.Path.{sym}
 use native.Mathlib.Nat.{le_trans}
 use native.Mathlib.Omega.{arith}
-use Rattle.reading.proofs.Blocks.{front_length, held_few, prices_wanted, covariance_wanted, covariance_short, covariance_asked, covariance_bad, covariance_good}
+use Rattle.reading.proofs.Blocks.{front_length, held_few, prices_wanted, covariance_wanted, covariance_short, covariance_asked, covariance_told}
 use Rattle.reading.proofs.read_block.Goals as goal
 
 pub read_prices-requires : goal.read_prices-requires
@@ -32,26 +32,17 @@ slice_bounds-read_lines-end c = le_trans (held_few _ _ _ c.held-w.ensures) c.req
 pub slice_bounds-read_lines-end-2 : goal.slice_bounds-read_lines-end-2
 slice_bounds-read_lines-end-2 c = front_length _ _ (le_trans (held_few _ _ _ c.held-w.ensures) c.requires.placed)
 
-pub read_lines-requires : goal.read_lines-requires
-read_lines-requires c =
+pub read_lines-good-requires : goal.read_lines-good-requires
+read_lines-good-requires c =
     let a = covariance_wanted c.requires c.if-daily.false in
     let f = le_trans (held_few _ _ _ c.held-w.ensures) c.requires.placed in
     covariance_asked _ _ _ _ _ _ a _ c.held-w.ensures _ (sym (front_length _ _ f))
 
-pub shape_of-cells-then-not-read_lines : goal.shape_of-cells-then-not-read_lines
-shape_of-cells-then-not-read_lines c = c.read_lines.auto.cells
-
-pub returns-then-not-read_lines : goal.returns-then-not-read_lines
-returns-then-not-read_lines c =
-    let a = covariance_wanted c.requires c.if-daily.false in
-    let f = le_trans (held_few _ _ _ c.held-w.ensures) c.requires.placed in
-    covariance_bad _ _ _ _ _ _ a _ c.held-w.ensures _ _ _ _ _ _ (sym (front_length _ _ f)) c.read_lines.ensures c.if-not-read_lines.true _
-
 pub shape_of-cells : goal.shape_of-cells
-shape_of-cells c = c.read_lines.auto.cells
+shape_of-cells c = c.read_lines-good.auto.cells
 
 pub returns : goal.returns
 returns c =
     let a = covariance_wanted c.requires c.if-daily.false in
     let f = le_trans (held_few _ _ _ c.held-w.ensures) c.requires.placed in
-    covariance_good _ _ _ _ _ _ a _ c.held-w.ensures _ _ _ _ _ _ (sym (front_length _ _ f)) c.read_lines.ensures c.if-not-read_lines.false
+    covariance_told _ _ _ _ _ _ a _ c.held-w.ensures _ _ _ _ _ _ (sym (front_length _ _ f)) c.read_lines-good.ensures _ c.then_some.ensures

@@ -8,7 +8,6 @@ use Rattle.ceilings.specs.Written.{ceiling_of}
 use Rattle.heading.specs.Heading.{last_field}
 use Rattle.reading.proofs.Front.{Front, front_step}
 use native.Mathlib.Omega.{arith}
-use Rattle.fields.proofs.Pieces.{pieces_le}
 use Rattle.reading.proofs.Ceilings.{lasting_start, last_within, lasting_bad, ceiling_at_lem, lasting_step, lasting_end}
 use Rattle.reading.proofs.read_last.Goals as goal
 use Rattle.reading.proofs.read_last.Goals.{then-i-ceilings, else-i-ceilings}
@@ -37,19 +36,13 @@ bounds-ceilings-i c = c.if-i-ceilings.true
 pub overflow_add-at : goal.overflow_add-at
 overflow_add-at c = omega (arith, last_within c.requires.n_in_bounds c.loop-i.invariant c.loop-i-test.true _ c.end_of-e.ensures, c.requires.s_len_bound)
 
-pub overflow_add-i : goal.overflow_add-i
-overflow_add-i c = omega (arith, c.loop-i-test.true, c.requires.s_len_bound, c.requires.n_in_bounds, pieces_le c.args.d c.args.s.now)
-
-pub loop-i-smaller : goal.loop-i-smaller
-loop-i-smaller c = omega (arith, c.loop-i-test.true)
-
 pub loop-i-preserved : goal.loop-i-preserved
 loop-i-preserved c =
     let came : (length c.if-i-ceilings.ceilings ≡ length c.loop-i.ceilings) × Front 0 (λ k. ceiling_of (last_field (piece c.args.d c.args.s.now k))) (c.loop-i.i + 1) c.if-i-ceilings.ceilings =
     front_step 0 _ _ _ _ _ c.loop-i.invariant.front
-    (ceiling_at_lem c.requires.n_in_bounds c.loop-i.invariant c.loop-i-test.true _ c.end_of-e.ensures _ c.last_piece.ensures _ c.read_ceiling-read.ensures _ c.in-Of.is)
+    (ceiling_at_lem c.requires.n_in_bounds c.loop-i.invariant c.loop-i-test.true _ c.end_of-e.ensures _ c.last_piece.ensures _ c.read_ceiling-read.ensures _ c.in-Some.is)
     (elim c.if-i-ceilings.branch [ then-i-ceilings t ↦ inl (t.if-i-ceilings.true, t.ceilings-is) | else-i-ceilings t ↦ inr (t.if-i-ceilings.false, t.ceilings-is) ]) in
-    lasting_step c.requires.n_in_bounds c.loop-i.invariant c.loop-i-test.true _ c.end_of-e.ensures _ c.last_piece.ensures _ c.read_ceiling-read.ensures _ c.in-Of.is _ came.0 came.1
+    lasting_step c.requires.n_in_bounds c.loop-i.invariant c.loop-i-test.true _ c.end_of-e.ensures _ c.last_piece.ensures _ c.read_ceiling-read.ensures _ c.in-Some.is _ came.0 came.1
 
 pub shape_of-ceilings : goal.shape_of-ceilings
 shape_of-ceilings c = c.loop-i.invariant.sized

@@ -69,12 +69,6 @@ returns-then-not-read_line c =
 pub overflow_add-at : goal.overflow_add-at
 overflow_add-at c = omega (arith, line_within _ _ _ _ _ _ _ _ c.requires c.loop-i.invariant c.loop-i-test.true _ c.end_of-e.ensures, c.requires.short)
 
-pub overflow_add-i : goal.overflow_add-i
-overflow_add-i c = omega arith
-
-pub loop-i-smaller : goal.loop-i-smaller
-loop-i-smaller c = omega arith
-
 pub loop-i-preserved : goal.loop-i-preserved
 loop-i-preserved c =
     let came : (length c.if-i-starts.starts ≡ length c.loop-i.starts) × Front 0 (λ k. start_of 10 c.args.text.now (k + c.args.before)) (c.loop-i.i + 1) c.if-i-starts.starts =

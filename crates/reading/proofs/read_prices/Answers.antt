@@ -7,7 +7,7 @@ use lib.ListN.{length, take, drop}
 use Rattle.fields.proofs.Pieces.{pieces_le}
 use Rattle.reading.specs.Reading.{is_names}
 use Rattle.reading.proofs.Line.{part_short}
-use Rattle.reading.proofs.Blocks.{front_length, fields_are, put_none, held_narrow, held_few, prices_more, prices_none, names_within, names_room, names_cut, names_true, names_wrong, days_asked, prices_asked, prices_bad, prices_good}
+use Rattle.reading.proofs.Blocks.{front_length, fields_are, put_none, held_narrow, held_few, prices_more, prices_none, names_within, names_room, names_cut, names_true, names_wrong, days_asked, prices_asked, prices_told}
 use Rattle.reading.proofs.read_prices.Goals as goal
 
 pub overflow_add-before : goal.overflow_add-before
@@ -61,29 +61,19 @@ overflow_add-e c = omega (arith, names_within _ _ _ _ _ _ c.requires c.if-ends-b
 pub days_from-at-requires : goal.days_from-at-requires
 days_from-at-requires c = days_asked _ _ _ _ _ _ c.requires c.if-ends-before.false _ refl _ c.end_of-e.ensures
 
-pub read_lines-requires : goal.read_lines-requires
-read_lines-requires c =
+pub read_lines-good-requires : goal.read_lines-good-requires
+read_lines-good-requires c =
     let cut = names_cut _ _ _ _ _ _ c.requires c.if-ends-before.false _ refl _ c.end_of-e.ensures in
     let n = fields_are _ _ _ c.count-n.ensures cut in
     prices_asked _ _ _ _ _ _ c.requires c.if-ends-before.false _ n _ c.end_of-e.ensures _ c.held-w.ensures _ _ c.days_from-at.ensures refl
 
-pub shape_of-cells-then-not-read_lines : goal.shape_of-cells-then-not-read_lines
-shape_of-cells-then-not-read_lines c = c.read_lines.auto.cells
-
-pub returns-then-not-read_lines : goal.returns-then-not-read_lines
-returns-then-not-read_lines c =
-    let cut = names_cut _ _ _ _ _ _ c.requires c.if-ends-before.false _ refl _ c.end_of-e.ensures in
-    let n = fields_are _ _ _ c.count-n.ensures cut in
-    let f = le_trans (held_few _ _ _ c.held-w.ensures) c.requires.placed in
-    prices_bad _ _ _ _ _ _ c.requires c.if-ends-before.false _ n _ c.end_of-e.ensures _ c.held-w.ensures _ _ _ cut (names_true c.read_names.ensures c.if-not-read_names.false) (c.read_names.auto.starts ∙ sym (front_length _ _ f)) _ _ _ _ _ c.read_lines.ensures c.if-not-read_lines.true _
-
 pub shape_of-cells : goal.shape_of-cells
-shape_of-cells c = c.read_lines.auto.cells
+shape_of-cells c = c.read_lines-good.auto.cells
 
 pub returns : goal.returns
 returns c =
     let cut = names_cut _ _ _ _ _ _ c.requires c.if-ends-before.false _ refl _ c.end_of-e.ensures in
     let n = fields_are _ _ _ c.count-n.ensures cut in
     let f = le_trans (held_few _ _ _ c.held-w.ensures) c.requires.placed in
-    prices_good _ _ _ _ _ _ c.requires c.if-ends-before.false _ n _ c.end_of-e.ensures _ c.held-w.ensures _ _ _ cut (names_true c.read_names.ensures c.if-not-read_names.false) (c.read_names.auto.starts ∙ sym (front_length _ _ f)) _ _ _ _ _ c.read_lines.ensures c.if-not-read_lines.false
-    _ (put_none c.read_lines.new.starts _ c.read_lines.auto.starts)
+    prices_told _ _ _ _ _ _ c.requires c.if-ends-before.false _ n _ c.end_of-e.ensures _ c.held-w.ensures _ _ _ cut (names_true c.read_names.ensures c.if-not-read_names.false) (c.read_names.auto.starts ∙ sym (front_length _ _ f)) _ _ _ _ _ c.read_lines-good.ensures _ c.then_some.ensures
+    _ (put_none c.read_lines-good.new.starts _ c.read_lines-good.auto.starts)

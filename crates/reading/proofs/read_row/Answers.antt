@@ -49,9 +49,9 @@ loop-at-smaller c =
 pub loop-at-preserved : goal.loop-at-preserved
 loop-at-preserved c =
     let came : (length c.if-j-row.row ≡ length c.loop-at.row) × Front nan (cell_at (split 9 c.args.line.now)) (c.loop-at.j + 1) c.if-j-row.row = front_step nan _ _ _ _ _ c.loop-at.invariant.front
-    (cell_is c.loop-at.invariant c.loop-at-test.true _ c.end_of-e.ensures _ c.read_cell-cell.ensures _ c.in-Of.is)
+    (cell_is c.loop-at.invariant c.loop-at-test.true _ c.end_of-e.ensures _ c.read_cell-cell.ensures _ c.in-Some.is)
     (elim c.if-j-row.branch [ then-j-row t ↦ inl (t.if-j-row.true, t.row-is) | else-j-row t ↦ inr (t.if-j-row.false, t.row-is) ]) in
-    rowing_step c.loop-at.invariant c.loop-at-test.true _ c.end_of-e.ensures _ c.read_cell-cell.ensures _ c.in-Of.is _ came.0 came.1
+    rowing_step c.loop-at.invariant c.loop-at-test.true _ c.end_of-e.ensures _ c.read_cell-cell.ensures _ c.in-Some.is _ came.0 came.1
 
 pub shape_of-row : goal.shape_of-row
 shape_of-row c = c.loop-at.invariant.sized

@@ -1,12 +1,10 @@
--- What the loops of `recorded::unclean` keep true, and what falls. Assumes nothing.
-use Rattle.recorded.specs.Told.{unclean_in}
-use lib.ListN.{length, drop}
-use mathlib.Core.Path.{◌≡◌}
-use Prim.Native.Nat.{◌-◌, ◌+◌, ◌≤◌}
+-- What the loop of `recorded::unclean` keeps true. Assumes nothing.
+use Rattle.std.proofs.Common.{◌≡◌, ◌+◌, ◌≤◌, length, drop}
 use Rattle.recorded.proofs.unclean.Given as goal
 
-abbrev pub invariant-loop-i : goal.invariant-loop-i
-invariant-loop-i l = (l.n ≤ l.i) × (l.n + unclean_in (drop l.i l.rest) ≡ unclean_in l.rest)
-
-abbrev pub decreases-loop-i : goal.decreases-loop-i
-decreases-loop-i l = length l.rest - l.i
+abbrev pub invariant-loop-x : goal.invariant-loop-x
+invariant-loop-x g l = record {
+  bound : l.n ≤ l.x-index;
+  in_range : l.x-index ≤ length l.rest;
+  counted : l.n + g.T.Entry.unclean (drop l.x-index l.rest) ≡ g.T.Entry.unclean l.rest;
+}

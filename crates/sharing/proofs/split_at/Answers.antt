@@ -1,16 +1,9 @@
 -- `sharing::split_at` meets its contract. Assumes nothing.
-use mathlib.Core.Path.{sym}
-use Rattle.sharing.proofs.Laws.{few_rows, series_fits, series_length, split_right, blank_again}
+use Rattle.sharing.proofs.Laws.{few_rows, split_right, blank_again}
 use Rattle.sharing.proofs.split_at.Goals as goal
 
 pub series_room-m-requires : goal.series_room-m-requires
 series_room-m-requires c = few_rows c.requires.fed
-
-pub slice_bounds-split_factor-end : goal.slice_bounds-split_factor-end
-slice_bounds-split_factor-end c = series_fits c.requires.blank c.series_room-m.ensures.upper_bound
-
-pub slice_bounds-split_factor-end-2 : goal.slice_bounds-split_factor-end-2
-slice_bounds-split_factor-end-2 c = sym (series_length c.requires.blank c.series_room-m.ensures.upper_bound)
 
 pub returns : goal.returns
 returns c = record {

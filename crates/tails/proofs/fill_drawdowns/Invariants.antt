@@ -1,13 +1,12 @@
--- What the loops of `tails::fill_drawdowns` keep true, and what falls. Assumes nothing.
-use Prim.Native.Nat.{◌-◌, ◌≤◌}
-use mathlib.Core.Path.{◌≡◌}
-use lib.ListN.{length}
+-- What the loops of `tails::fill_drawdowns` keep true. Assumes nothing.
+use Rattle.std.proofs.Common.{◌≡◌}
 use Rattle.lent.specs.Grid.{tab, over}
 use Rattle.tails.specs.Tail.{row_return, wealth, peak, drawdown}
 use Rattle.tails.proofs.fill_drawdowns.Given as goal
 
 abbrev pub invariant-loop-r : goal.invariant-loop-r
-invariant-loop-r l = (l.r ≤ l.rows) × (length l.out ≡ length l.initial.out) × (l.out ≡ over (tab l.r (drawdown (row_return l.returns l.n l.assets l.w))) l.initial.out) × (l.v ≡ wealth (row_return l.returns l.n l.assets l.w) l.r) × (l.p ≡ peak (row_return l.returns l.n l.assets l.w) l.r)
-
-abbrev pub decreases-loop-r : goal.decreases-loop-r
-decreases-loop-r l = l.rows - l.r
+invariant-loop-r l = record {
+  filled : l.out ≡ over (tab l.r (drawdown (row_return l.returns l.n l.assets l.w))) l.initial.out;
+  worth : l.v ≡ wealth (row_return l.returns l.n l.assets l.w) l.r;
+  top : l.p ≡ peak (row_return l.returns l.n l.assets l.w) l.r;
+}

@@ -1,45 +1,26 @@
--- `text::is_word` meets its contract. What is left of the name in small letters from place i on decides. Assumes nothing.
-use mathlib.Core.Path.{refl, sym, ◌∙◌}
-use native.Mathlib.Omega.{arith}
-use Rattle.text.specs.Bytes.{lowered, is_word}
-use Rattle.text.proofs.Names.{same_yes, same_no, same_end, same_length, length_lowered, get_d_lowered}
+-- `text::is_word` meets its contract: where the lengths are the same, the pairs of bytes decide. Assumes nothing.
+use Rattle.std.proofs.Common.{rules}
+use mathlib.Core.Path.{sym, ◌∙◌}
+use Prim.Native.Nat.{ℕ}
+use lib.Dec.{eqb}
+use borrow.Author.Tests.{tests, ne_eqb}
+use Rattle.std.proofs.lemmas.Iterator.{YieldsList-from_slice, YieldsList-from_zip}
+use Rattle.std.proofs.lemmas.Iterator.Search.{all_from_yields_List}
+use Rattle.std.specs.Char.{to_ascii_lowercase}
+use Rattle.text.specs.Bytes.{is_word, lowered}
+use Rattle.text.proofs.Names.{pairs_same, same_length, length_lowered}
 use Rattle.text.proofs.is_word.Goals as goal
 
 pub returns-then-name-word : goal.returns-then-name-word
 unfolding is_word
 returns-then-name-word c =
-    let n = length_lowered c.args.name.now in
-    sym (same_length (lowered c.args.name.now) c.args.word.now (λ e. c.if-name-word.true (sym n ∙ e)))
+    all_from_yields_List (λ (p : ℕ × ℕ). eqb (to_ascii_lowercase p.0) p.1) c.all.new.self _ _ c.all.ensures.ran
+    (YieldsList-from_zip (YieldsList-from_slice c.args.name.now cc) (YieldsList-from_slice c.args.word.now cc))
+    (λ x b q k. search (rules, tests))
+    ∙ pairs_same c.args.name.now c.args.word.now c.if-name-word.true
 
-pub loop-i-init : goal.loop-i-init
+pub returns-else-name-word : goal.returns-else-name-word
 unfolding is_word
-loop-i-init c = (omega arith, refl)
-
-pub bounds-name-i : goal.bounds-name-i
-bounds-name-i c = omega arith
-
-pub bounds-word-i : goal.bounds-word-i
-bounds-word-i c = omega arith
-
-pub returns-then-lower-word : goal.returns-then-lower-word
-returns-then-lower-word c =
-    let n = length_lowered c.args.name.now in
-    let e = get_d_lowered c.args.name.now c.loop-i.i (omega arith) in
-    sym (c.loop-i.invariant.1 ∙ same_no (lowered c.args.name.now) c.args.word.now c.loop-i.i (omega arith) (omega arith) (λ q. c.if-lower-word.true (c.lower.ensures ∙ sym e ∙ q)))
-
-pub overflow_add-i : goal.overflow_add-i
-overflow_add-i c = omega arith
-
-pub loop-i-smaller : goal.loop-i-smaller
-loop-i-smaller c = omega arith
-
-pub loop-i-preserved : goal.loop-i-preserved
-loop-i-preserved c =
-    let n = length_lowered c.args.name.now in
-    let e = get_d_lowered c.args.name.now c.loop-i.i (omega arith) in
-    (omega arith, c.loop-i.invariant.1 ∙ same_yes (lowered c.args.name.now) c.args.word.now c.loop-i.i (omega arith) (omega arith) (e ∙ sym c.lower.ensures ∙ c.if-lower-word.false))
-
-pub returns : goal.returns
-returns c =
-    let n = length_lowered c.args.name.now in
-    sym (c.loop-i.invariant.1 ∙ same_end (lowered c.args.name.now) c.args.word.now c.loop-i.i (omega arith) (omega arith))
+returns-else-name-word c =
+    ne_eqb _ _ c.if-name-word.false
+    ∙ sym (same_length (lowered c.args.name.now) c.args.word.now (λ e. c.if-name-word.false (sym (length_lowered c.args.name.now) ∙ e)))

@@ -1,11 +1,6 @@
--- What the loops of `tree::tally` keep true, and what falls. Assumes nothing.
-use Prim.Native.Nat.{◌-◌, ◌≤◌}
-use lib.ListN.{length}
+-- What the loop of `tree::tally` keeps true. Assumes nothing.
 use Rattle.tree.proofs.Counted.{Tallying}
 use Rattle.tree.proofs.tally.Given as goal
 
-abbrev pub invariant-loop-i : goal.invariant-loop-i
-invariant-loop-i l = (l.i ≤ length l.list) × Tallying l.list l.t l.i
-
-abbrev pub decreases-loop-i : goal.decreases-loop-i
-decreases-loop-i l = length l.list - l.i
+abbrev pub invariant-loop-x : goal.invariant-loop-x
+invariant-loop-x l = Tallying l.list l.t l.x-index

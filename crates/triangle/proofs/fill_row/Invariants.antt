@@ -1,8 +1,8 @@
--- What the loops of `triangle::fill_row` keep true, and what falls. Assumes nothing.
-use Prim.Native.Nat.{◌+◌, ◌-◌, ◌≤◌}
+-- What the loop of `triangle::fill_row` keeps true. Assumes nothing.
+use Prim.Native.Nat.{◌+◌}
 use mathlib.Core.Path.{◌≡◌}
 use mathlib.Core.Bool.{◌&&◌}
-use lib.ListN.{length, set}
+use lib.ListN.{set}
 use Rattle.lent.specs.Grid.{cell}
 use Rattle.lent.specs.Range.{range}
 use Rattle.triangle.specs.declared.Form.TheVariants.{Triangle}
@@ -11,11 +11,5 @@ use Rattle.triangle.proofs.fill_row.Given as goal
 
 abbrev pub invariant-loop-c : goal.invariant-loop-c
 invariant-loop-c l =
-    (l.r + 1 ≤ l.c)
-    × (l.c ≤ l.n)
-    × (l.same ≡ range (λ i b. b && is_mirror l.xs l.n l.r i) (l.r + 1) l.c l.before)
+    (l.same ≡ range (λ i b. b && is_mirror l.xs l.n l.r i) (l.r + 1) l.c l.before)
     × (l.d ≡ range (λ i t. set t (place_of Triangle l.n l.r i) (cell l.xs l.n l.r i)) (l.r + 1) l.c l.initial.d)
-    × (length l.d ≡ length l.initial.d)
-
-abbrev pub decreases-loop-c : goal.decreases-loop-c
-decreases-loop-c l = l.n - l.c

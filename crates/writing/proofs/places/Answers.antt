@@ -9,9 +9,6 @@ loop-left-init c = counting_start _ (omega arith)
 pub overflow_add-k : goal.overflow_add-k
 overflow_add-k c = omega (arith, counting_le c.loop-left.invariant)
 
-pub loop-left-smaller : goal.loop-left-smaller
-loop-left-smaller c = omega arith
-
 pub loop-left-preserved : goal.loop-left-preserved
 loop-left-preserved c = counting_step c.loop-left.invariant (omega arith)
 

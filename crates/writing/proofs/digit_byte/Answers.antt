@@ -1,9 +1,0 @@
--- `writing::digit_byte` meets its contract. Assumes nothing.
-use Rattle.writing.proofs.Digits.{low_digit, high_digit}
-use Rattle.writing.proofs.digit_byte.Goals as goal
-
-pub returns-then-d-lt10 : goal.returns-then-d-lt10
-returns-then-d-lt10 c = low_digit _ c.if-d-lt10.true
-
-pub returns : goal.returns
-returns c = high_digit _ c.if-d-lt10.false
