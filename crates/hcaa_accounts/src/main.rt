@@ -2,8 +2,10 @@
 // oracle/README.md says. oracle/rust records them from the published Rust.
 #![tactic(auto)]
 
+ghost use Rattle.recorded.specs.Told.{Continues};
+
 use linkage::{Distance, Linkage};
-use recorded::{Buffer, Expected, Matrices, Tokens, Told};
+use recorded::{Buffer, Calls, Expected, Matrices, Tokens, Told};
 use refusal::Refusal;
 
 const DISTANCES: [Distance; 2] = [Distance::Correlation, Distance::DistanceOfDistances];
@@ -76,7 +78,10 @@ fn read_rooms(tokens: &mut Tokens, b: &mut Buffers) {
 // ---- answers
 
 // The buffers' answer for an account, and how many entries of what was lent are not zero past it, of scratch all.
-fn tell(outcome: Result<(), Refusal>, assets: usize, b: &Buffers, told: &mut Told) {
+#[tactic(auto, using(recorded::proofs::Laws::continues_none, recorded::proofs::Laws::continues_then))]
+fn tell(outcome: Result<(), Refusal>, assets: usize, b: &Buffers, told: &mut Told)
+    ensures { Continues told.old told.new }
+{
     let n = recorded::answered(outcome, assets);
     let ids = recorded::ids_of(n);
     told.put_outcome(outcome);
@@ -131,7 +136,10 @@ fn allot(
 }
 
 // One account, in what the ones before it left.
-fn account(tokens: &mut Tokens, b: &mut Buffers, told: &mut Told) {
+#[tactic(auto, using(recorded::proofs::Laws::continues_none, recorded::proofs::Laws::continues_then))]
+fn account(tokens: &mut Tokens, b: &mut Buffers, told: &mut Told)
+    ensures { Continues told.old told.new }
+{
     let mut names = [7u8; 192];
     let mut cells = [1.5; 13312];
     let h = opening(tokens, &mut names);
@@ -152,11 +160,20 @@ fn junk() -> Buffers {
     }
 }
 
-fn replay(text: &[u8], told: &mut Told) {
-    let mut b = junk();
-    recorded::replay(text, told, |_, tokens, told| account(tokens, &mut b, told));
+impl Calls for Buffers {
+    fn call(&mut self, _code: usize, tokens: &mut Tokens, told: &mut Told) {
+        account(tokens, self, told);
+    }
 }
 
 fn main(rt: HostRuntime) {
-    recorded::answer(rt, replay);
+    let mut text = recorded::space();
+    let Some(n) = channel::read_all(rt, &mut text) else {
+        return;
+    };
+    let mut bytes = recorded::space();
+    let mut told = Told::new(&mut bytes);
+    recorded::replay(recorded::front(&text, n), &mut told, &mut junk());
+    let end = told.end;
+    channel::write(rt, recorded::front(&bytes, end));
 }

@@ -542,52 +542,23 @@ pub fn choice<T: Copy>(code: usize, choices: &[T], other: T) -> T
 }
 
 // A mebibyte and a half of zeros. Its contract gives the length alone, so that no proof looks into it.
-fn space() -> [u8; 1572864]
+pub fn space() -> [u8; 1572864]
     ensures { 1572864 ≡ length result }
 {
     [0; 1572864]
 }
 
-// Standard input, where it could be had whole.
-pub fn with_input<F: FnOnce(&[u8])>(rt: HostRuntime, take: F)
-    requires { F.IsAlwaysCallable take }
-{
-    let mut text = space();
-    let input = channel::read_all(rt, &mut text);
-    let Some(n) = input else {
-        return;
-    };
-    take(front(&text, n));
-}
-
-// What `tell` makes of standard input, to standard output.
-pub fn answer<F: FnOnce(&[u8], &mut Told)>(rt: HostRuntime, tell: F)
-    requires { F.IsAlwaysCallable tell }
-{
-    with_input(
-        rt,
-        |text|
-            requires { F.IsAlwaysCallable tell }
-        {
-            let mut bytes = space();
-            let mut told = Told::new(&mut bytes);
-            tell(text, &mut told);
-            let end = told.end;
-            channel::write(rt, front(&bytes, end));
-        },
-    );
-}
-
-// A blank and a number, to standard output. Answers whether all was taken.
-pub fn write_number(rt: HostRuntime, n: usize) -> bool {
-    let mut digits = [0u8; 20];
-    let d = io::decimal(n as u64, &mut digits);
-    channel::write(rt, b" ") && channel::write(rt, &digits[..d])
+// What a program does at each call of a text.
+pub trait Calls {
+    // The call of an opcode that was read.
+    fn call(&mut self, code: usize, tokens: &mut Tokens, told: &mut Told)
+        ensures { Continues told.old told.new };
 }
 
 // Every call of a text, each given its opcode.
-pub fn replay<F: FnMut(usize, &mut Tokens, &mut Told)>(text: &[u8], told: &mut Told, mut call: F)
-    requires { F.IsAlwaysCallable call }
+#[tactic(auto, using(crate::proofs::Laws::continues_none, crate::proofs::Laws::continues_then))]
+pub fn replay<C: Calls>(text: &[u8], told: &mut Told, calls: &mut C)
+    ensures { Continues told.old told.new }
 {
     let mut tokens = Tokens::new(text);
     while tokens.at < text.len() {
@@ -597,7 +568,7 @@ pub fn replay<F: FnMut(usize, &mut Tokens, &mut Told)>(text: &[u8], told: &mut T
         if code == 0 {
             return;
         }
-        call(code, &mut tokens, told);
+        calls.call(code, &mut tokens, told);
         if tokens.at <= at {
             return;
         }

@@ -2,10 +2,12 @@
 // of hex tokens, as oracle/README.md says. oracle/rust records them from the published Rust.
 #![tactic(auto)]
 
+ghost use Rattle.recorded.specs.Told.{Continues};
+
 use distances::Measure;
 use lent::Size;
 use linkage::{Linkage, Merged};
-use recorded::{Tokens, Told};
+use recorded::{Calls, Tokens, Told};
 use refusal::Refusal;
 use tree::Node;
 
@@ -70,7 +72,10 @@ fn head(code: usize, tokens: &mut Tokens) -> Asked {
 }
 
 // A matrix to doubles.
-fn matrix(code: usize, tokens: &mut Tokens, told: &mut Told) {
+#[tactic(auto, using(recorded::proofs::Laws::continues_none, recorded::proofs::Laws::continues_then))]
+fn matrix(code: usize, tokens: &mut Tokens, told: &mut Told)
+    ensures { Continues told.old told.new }
+{
     let mut cells = [1.5; 4352];
     let mut out = [1.5; 4352];
     let h = head(code, tokens);
@@ -93,7 +98,10 @@ fn rows_of(answer: Result<Merged, Refusal>) -> Result<Size, Refusal> {
 }
 
 // A matrix to merge rows. The pairs looked at are not among the recorded answers.
-fn children(tokens: &mut Tokens, told: &mut Told) {
+#[tactic(auto, using(recorded::proofs::Laws::continues_none, recorded::proofs::Laws::continues_then))]
+fn children(tokens: &mut Tokens, told: &mut Told)
+    ensures { Continues told.old told.new }
+{
     let mut cells = [1.5; 4352];
     let mut out = [7usize; 512];
     let h = head(10, tokens);
@@ -109,7 +117,10 @@ fn children(tokens: &mut Tokens, told: &mut Told) {
 }
 
 // Merge rows to a leaf order.
-fn leaves(tokens: &mut Tokens, told: &mut Told) {
+#[tactic(auto, using(recorded::proofs::Laws::continues_none, recorded::proofs::Laws::continues_then))]
+fn leaves(tokens: &mut Tokens, told: &mut Told)
+    ensures { Continues told.old told.new }
+{
     let mut ids = [7usize; 512];
     let mut out = [7usize; 512];
     let room = tokens.next();
@@ -126,7 +137,10 @@ fn leaves(tokens: &mut Tokens, told: &mut Told) {
 }
 
 // A matrix and a leaf order to a matrix.
-fn seriated(tokens: &mut Tokens, told: &mut Told) {
+#[tactic(auto, using(recorded::proofs::Laws::continues_none, recorded::proofs::Laws::continues_then))]
+fn seriated(tokens: &mut Tokens, told: &mut Told)
+    ensures { Continues told.old told.new }
+{
     let mut cells = [1.5; 4352];
     let mut order = [7usize; 512];
     let mut out = [1.5; 4352];
@@ -144,7 +158,10 @@ fn seriated(tokens: &mut Tokens, told: &mut Told) {
 }
 
 // A name to a step.
-fn step(tokens: &mut Tokens, told: &mut Told) {
+#[tactic(auto, using(recorded::proofs::Laws::continues_none, recorded::proofs::Laws::continues_then))]
+fn step(tokens: &mut Tokens, told: &mut Told)
+    ensures { Continues told.old told.new }
+{
     let mut name = [7u8; 512];
     let named = tokens.fill_from(&mut name, 0);
     let found = resample::freq_step(recorded::front(&name, named));
@@ -153,17 +170,29 @@ fn step(tokens: &mut Tokens, told: &mut Told) {
     told.put_last(0);
 }
 
-// The call of an opcode that was read.
-fn call(code: usize, tokens: &mut Tokens, told: &mut Told) {
-    match code {
-        10 => children(tokens, told),
-        11 => leaves(tokens, told),
-        12 => seriated(tokens, told),
-        13 => step(tokens, told),
-        _ => matrix(code, tokens, told),
+#[derive(Drop)]
+struct Recorded;
+
+impl Calls for Recorded {
+    fn call(&mut self, code: usize, tokens: &mut Tokens, told: &mut Told) {
+        match code {
+            10 => children(tokens, told),
+            11 => leaves(tokens, told),
+            12 => seriated(tokens, told),
+            13 => step(tokens, told),
+            _ => matrix(code, tokens, told),
+        }
     }
 }
 
 fn main(rt: HostRuntime) {
-    recorded::answer(rt, |text, told| recorded::replay(text, told, call));
+    let mut text = recorded::space();
+    let Some(n) = channel::read_all(rt, &mut text) else {
+        return;
+    };
+    let mut bytes = recorded::space();
+    let mut told = Told::new(&mut bytes);
+    recorded::replay(recorded::front(&text, n), &mut told, &mut Recorded);
+    let end = told.end;
+    channel::write(rt, recorded::front(&bytes, end));
 }

@@ -3,29 +3,35 @@
 // are left that are not zero. oracle/reports.py makes all of it from the request's words.
 #![tactic(auto)]
 
-ghost use Rattle.std.specs.Prelude.{◌<◌};
+ghost use Rattle.std.specs.Prelude.{◌<◌, ◌≤◌};
 
 use cutting::Feed;
 use refusal::Refusal;
 
+// A blank and a number. Answers whether all was taken.
+fn write_number(rt: HostRuntime, n: usize) -> bool {
+    let mut digits = [0u8; 20];
+    let d = io::decimal(n as u64, &mut digits);
+    channel::write(rt, b" ") && channel::write(rt, &digits[..d])
+}
+
 // What was made of an input. Answers whether all was taken.
 fn write(rt: HostRuntime, listed: Result<usize, Refusal>, page: &[u8], fault: usize) -> bool {
-    printing::write_listed(rt, listed, page)
-        && channel::write(rt, b"--")
-        && recorded::write_number(rt, fault)
+    printing::write_listed(rt, listed, page) && channel::write(rt, b"--") && write_number(rt, fault)
 }
 
 // How much is left in the buffers, past the page's end.
 fn write_left(rt: HostRuntime, table: &[usize], held: &[u8], rest: &[u8]) -> bool {
-    recorded::write_number(rt, recorded::unclean(table))
-        && recorded::write_number(rt, recorded::unclean(held))
-        && recorded::write_number(rt, recorded::unclean(rest))
+    write_number(rt, recorded::unclean(table))
+        && write_number(rt, recorded::unclean(held))
+        && write_number(rt, recorded::unclean(rest))
         && channel::write(rt, b"\n")
 }
 
 // An input in pieces of so many bytes.
 fn take(table: &mut [usize], held: &mut [u8], text: &[u8], step: usize) -> Feed
-    requires { 0 < step }
+    requires step_nonzero { 0 < step }
+    requires step_bound { step ≤ 61 }
 {
     let mut feed = cutting::begin_feed(table, held);
     for piece in text.chunks(step) {
@@ -36,7 +42,8 @@ fn take(table: &mut [usize], held: &mut [u8], text: &[u8], step: usize) -> Feed
 
 // One input, in buffers full of junk, of just the length that they need.
 fn run(rt: HostRuntime, text: &[u8], step: usize) -> bool
-    requires { 0 < step }
+    requires step_nonzero { 0 < step }
+    requires step_bound { step ≤ 61 }
 {
     let mut table = [7usize; 1792];
     let mut held = [7u8; 4358];
@@ -61,5 +68,9 @@ fn run_all(rt: HostRuntime, inputs: &[u8]) {
 }
 
 fn main(rt: HostRuntime) {
-    recorded::with_input(rt, |inputs| run_all(rt, inputs));
+    let mut text = recorded::space();
+    let Some(n) = channel::read_all(rt, &mut text) else {
+        return;
+    };
+    run_all(rt, recorded::front(&text, n));
 }

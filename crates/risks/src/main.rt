@@ -2,8 +2,10 @@
 // that hold junk, and writes the answers to standard output; both are lines of hex tokens, as oracle/README.md says. oracle/rust records them from the published Rust.
 #![tactic(auto)]
 
+ghost use Rattle.recorded.specs.Told.{Continues};
+
 use lent::Size;
-use recorded::{Expected, Tokens, Told};
+use recorded::{Calls, Expected, Tokens, Told};
 use refusal::Refusal;
 use sharing::Metric;
 
@@ -87,7 +89,10 @@ fn asked_sharing(tokens: &mut Tokens) -> Asked {
 // ---- answers
 
 // A lone number is one row of one cell. What it was worked out in may be left unclean.
-fn tell_risk(risk: Result<f64, Refusal>, left: usize, told: &mut Told) {
+#[tactic(auto, using(recorded::proofs::Laws::continues_none, recorded::proofs::Laws::continues_then))]
+fn tell_risk(risk: Result<f64, Refusal>, left: usize, told: &mut Told)
+    ensures { Continues told.old told.new }
+{
     match risk {
         Ok(value) => {
             told.put_sizes(0, 1, 1);
@@ -98,7 +103,10 @@ fn tell_risk(risk: Result<f64, Refusal>, left: usize, told: &mut Told) {
     told.put_last(left);
 }
 
-fn tell_shares(answer: Result<Size, Refusal>, out: &[f64], left: usize, told: &mut Told) {
+#[tactic(auto, using(recorded::proofs::Laws::continues_none, recorded::proofs::Laws::continues_then))]
+fn tell_shares(answer: Result<Size, Refusal>, out: &[f64], left: usize, told: &mut Told)
+    ensures { Continues told.old told.new }
+{
     let n = recorded::columns_of(answer);
     told.put_outcome(lent::told(answer));
     told.put_front(out, n);
@@ -124,7 +132,10 @@ fn run(
     }
 }
 
-fn weights(code: usize, tokens: &mut Tokens, cells: &mut Cells, list: &mut Ids, told: &mut Told) {
+#[tactic(auto, using(recorded::proofs::Laws::continues_none, recorded::proofs::Laws::continues_then))]
+fn weights(code: usize, tokens: &mut Tokens, cells: &mut Cells, list: &mut Ids, told: &mut Told)
+    ensures { Continues told.old told.new }
+{
     let room = tokens.next();
     let m = matrix_and_list(tokens, cells, list);
     let mut out = [1.5; 4352];
@@ -132,7 +143,10 @@ fn weights(code: usize, tokens: &mut Tokens, cells: &mut Cells, list: &mut Ids, 
     told.put_answer(answer, recorded::front(&out, room));
 }
 
-fn variance(tokens: &mut Tokens, cells: &mut Cells, list: &mut Ids, told: &mut Told) {
+#[tactic(auto, using(recorded::proofs::Laws::continues_none, recorded::proofs::Laws::continues_then))]
+fn variance(tokens: &mut Tokens, cells: &mut Cells, list: &mut Ids, told: &mut Told)
+    ensures { Continues told.old told.new }
+{
     let m = matrix_and_list(tokens, cells, list);
     let t = m.matrix;
     let matrix = recorded::front(cells, t.len);
@@ -141,7 +155,10 @@ fn variance(tokens: &mut Tokens, cells: &mut Cells, list: &mut Ids, told: &mut T
     tell_risk(risk, 0, told);
 }
 
-fn sharpe(tokens: &mut Tokens, cells: &mut Cells, list: &mut Ids, told: &mut Told) {
+#[tactic(auto, using(recorded::proofs::Laws::continues_none, recorded::proofs::Laws::continues_then))]
+fn sharpe(tokens: &mut Tokens, cells: &mut Cells, list: &mut Ids, told: &mut Told)
+    ensures { Continues told.old told.new }
+{
     let width = tokens.fill_from(cells, recorded::EXPECTED);
     let m = matrix_and_list(tokens, cells, list);
     let t = m.matrix;
@@ -177,7 +194,10 @@ fn risk_of(
     }
 }
 
-fn tail_risk(code: usize, tokens: &mut Tokens, cells: &mut Cells, list: &mut Ids, told: &mut Told) {
+#[tactic(auto, using(recorded::proofs::Laws::continues_none, recorded::proofs::Laws::continues_then))]
+fn tail_risk(code: usize, tokens: &mut Tokens, cells: &mut Cells, list: &mut Ids, told: &mut Told)
+    ensures { Continues told.old told.new }
+{
     let r = read_table(tokens, cells, recorded::RETURNS);
     let m = matrix_and_list(tokens, cells, list);
     let l = read_level(tokens);
@@ -223,7 +243,10 @@ fn share(
     )
 }
 
-fn shares(tokens: &mut Tokens, cells: &mut Cells, list: &mut Ids, told: &mut Told) {
+#[tactic(auto, using(recorded::proofs::Laws::continues_none, recorded::proofs::Laws::continues_then))]
+fn shares(tokens: &mut Tokens, cells: &mut Cells, list: &mut Ids, told: &mut Told)
+    ensures { Continues told.old told.new }
+{
     let h = asked_sharing(tokens);
     let e = tokens.expected(cells);
     let r = read_table(tokens, cells, recorded::RETURNS);
@@ -248,19 +271,32 @@ fn shares(tokens: &mut Tokens, cells: &mut Cells, list: &mut Ids, told: &mut Tol
 
 // ---- every call
 
-// The call of an opcode that was read, in buffers of its own.
-fn call(code: usize, tokens: &mut Tokens, told: &mut Told) {
-    let mut cells = [1.5; 13312];
-    let mut list = [7usize; 512];
-    match code {
-        2 => variance(tokens, &mut cells, &mut list, told),
-        3 => sharpe(tokens, &mut cells, &mut list, told),
-        7 => shares(tokens, &mut cells, &mut list, told),
-        8 | 9 => tail_risk(code, tokens, &mut cells, &mut list, told),
-        _ => weights(code, tokens, &mut cells, &mut list, told),
+#[derive(Drop)]
+struct Recorded;
+
+impl Calls for Recorded {
+    // In buffers of its own.
+    fn call(&mut self, code: usize, tokens: &mut Tokens, told: &mut Told) {
+        let mut cells = [1.5; 13312];
+        let mut list = [7usize; 512];
+        match code {
+            2 => variance(tokens, &mut cells, &mut list, told),
+            3 => sharpe(tokens, &mut cells, &mut list, told),
+            7 => shares(tokens, &mut cells, &mut list, told),
+            8 | 9 => tail_risk(code, tokens, &mut cells, &mut list, told),
+            _ => weights(code, tokens, &mut cells, &mut list, told),
+        }
     }
 }
 
 fn main(rt: HostRuntime) {
-    recorded::answer(rt, |text, told| recorded::replay(text, told, call));
+    let mut text = recorded::space();
+    let Some(n) = channel::read_all(rt, &mut text) else {
+        return;
+    };
+    let mut bytes = recorded::space();
+    let mut told = Told::new(&mut bytes);
+    recorded::replay(recorded::front(&text, n), &mut told, &mut Recorded);
+    let end = told.end;
+    channel::write(rt, recorded::front(&bytes, end));
 }

@@ -7,10 +7,12 @@ use refusal::Refusal;
 
 // What a call made of a text, and the line after it. Answers whether all was taken.
 fn write(rt: HostRuntime, listed: Result<usize, Refusal>, out: &[u8]) -> bool {
+    let mut digits = [0u8; 20];
     let rest = recorded::past(out, listing::bytes(listed));
+    let d = io::decimal(recorded::unclean(rest) as u64, &mut digits);
     printing::write_listed(rt, listed, out)
-        && channel::write(rt, b"--")
-        && recorded::write_number(rt, recorded::unclean(rest))
+        && channel::write(rt, b"-- ")
+        && channel::write(rt, &digits[..d])
         && channel::write(rt, b"\n")
 }
 
@@ -48,5 +50,9 @@ fn run_all(rt: HostRuntime, texts: &[u8]) {
 }
 
 fn main(rt: HostRuntime) {
-    recorded::with_input(rt, |texts| run_all(rt, texts));
+    let mut text = recorded::space();
+    let Some(n) = channel::read_all(rt, &mut text) else {
+        return;
+    };
+    run_all(rt, recorded::front(&text, n));
 }

@@ -24,5 +24,13 @@ fn answers(text: &[u8], told: &mut Told) {
 }
 
 fn main(rt: HostRuntime) {
-    recorded::answer(rt, answers);
+    let mut text = recorded::space();
+    let Some(n) = channel::read_all(rt, &mut text) else {
+        return;
+    };
+    let mut bytes = recorded::space();
+    let mut told = Told::new(&mut bytes);
+    answers(recorded::front(&text, n), &mut told);
+    let end = told.end;
+    channel::write(rt, recorded::front(&bytes, end));
 }
