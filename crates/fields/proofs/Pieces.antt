@@ -44,6 +44,10 @@ take_upto d (b ∷ s) = go (eqb b d) (take_upto d s)
 
 -- ---- the first piece, and the pieces after it
 
+split_here : (d b : ℕ) (s : List ℕ) → b ≡ d → split d (b ∷ s) ≡ [] ∷ split d s
+unfolding split
+split_here d b s e = simp (eq-eqb b d e)
+
 split_on : (d b : ℕ) (s : List ℕ) → (b ≡ d → ⊥) → split d (b ∷ s) ≡ onto b (split d s)
 unfolding split
 split_on d b s e = simp (ne_eqb b d e)
@@ -118,7 +122,10 @@ module _ (d : ℕ) (s : List ℕ) (i : ℕ) where
   unfolding end_of first_piece
   end_past h = omega (arith, ap length (ap (first_piece d) (drop_of_length-le s h)))
 
-  -- ---- the pieces from place i on
+  -- ---- a count of d's, at place i
+
+  pub count_here : i < length s → get_or s i 0 ≡ d → length (split d (drop i s)) ≡ suc (length (split d (drop (i + 1) s)))
+  count_here h e = rw add-one (ap length (ap (split d) (drop-cons s i 0 h) ∙ split_here d (get_or s i 0) (drop (suc i) s) e))
 
   pub count_on : i < length s → (get_or s i 0 ≡ d → ⊥) → length (split d (drop i s)) ≡ length (split d (drop (i + 1) s))
   count_on h e = rw add-one (ap length (ap (split d) (drop-cons s i 0 h) ∙ split_on d (get_or s i 0) (drop (suc i) s) e) ∙ length_onto (get_or s i 0) (split d (drop (suc i) s)))

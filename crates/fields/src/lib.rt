@@ -23,7 +23,13 @@ pub fn end_of(s: &[u8], d: u8, from: usize) -> usize
 pub fn count(s: &[u8], d: u8) -> usize
     ensures { result ≡ length (split d s.now) - 1 }
 {
-    s.iter().filter(|b| **b == d).count()
+    let mut n = 0;
+    for &b in s {
+        if b == d {
+            n += 1;
+        }
+    }
+    n
 }
 
 // Piece k between the d's, counted from 0; nothing where there are not as many.

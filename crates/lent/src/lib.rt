@@ -71,8 +71,9 @@ pub fn clear_from<T: Zero>(out: &mut [T], start: usize)
 pub fn copy(from: &[f64], to: &mut [f64])
     ensures { to.new ≡ over (take (length to.old) from.now) to.old }
 {
-    let n = to.len().min(from.len());
-    to[..n].copy_from_slice(&from[..n]);
+    for n in 0..from.len().min(to.len()) {
+        to[n] = from[n];
+    }
 }
 
 // Rows, columns or cells are over their limit (9). The product is taken once both are small.

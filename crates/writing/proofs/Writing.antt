@@ -6,12 +6,22 @@ use native.Mathlib.Omega.{arith}
 use native.Mathlib.Nat.{add-zero, zero-add, add_assoc, mul-suc}
 use native.Mathlib.Numerals.{add-one}
 use borrow.Author.Tests.{le-leb, lt-leb}
-use lib.ListN.{length, set, take, drop, length-append, length-set}
-use lib.Seq.{paste, paste-zero, length-paste, take-paste, drop-paste, take-length, take-append-le, take-take, drop-drop, drop_at, length-take-le, set_split, append_snoc}
+use lib.ListN.{length, get_or, set, take, drop, length-append, length-set}
+use lib.Seq.{paste, paste-zero, paste-suc, length-paste, take-paste, drop-paste, take-length, take-append-le, take-take, drop-drop, drop_at, length-take-le, set_split, append_snoc}
 use borrow.Rule.Slice.PartMut.{put_mid}
 use Rattle.std.proofs.lemmas.Slice.{put_mid-paste}
 use Rattle.lent.specs.Grid.{over}
 use Rattle.writing.specs.Writing.{joined, written, put, past, Put, Wrote, Fitting}
+
+-- ---- a copy, byte by byte
+
+module _ (d l : List ℕ) (at : ℕ) (s : List ℕ) (j : ℕ) (e : d ≡ paste l at s j) where
+  pub copy_more : at + j < length l → j < length s → set d (at + j) (get_or s j 0) ≡ paste l at s (j + 1)
+  copy_more h g = rw (e, add-one) (paste-suc l at s j 0 h g)
+
+  pub copy_end : j ≡ length s → d ≡ written l at s
+  unfolding written
+  copy_end h = rw h at e
 
 -- ---- what writing functions promise
 

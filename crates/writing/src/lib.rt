@@ -19,9 +19,10 @@ pub fn put_bytes(out: &mut [u8], at: usize, s: &[u8]) -> usize
     if lacks_room(out.len(), at, s.len()) {
         return at;
     }
-    let end = at + s.len();
-    out[at..end].copy_from_slice(s);
-    end
+    for i in 0..s.len() {
+        out[at + i] = s[i];
+    }
+    at + s.len()
 }
 
 // One byte, likewise.
