@@ -43,12 +43,18 @@ fn is_near(x: f64, y: f64) -> bool
     -EPS <= z && z <= EPS
 }
 
-// (p, q) comes before (r, s). Compared as tuples they would cost the merge step 3 percent more.
+// (p, q) comes before (r, s). As tuples they would cost the merge step 3 percent more, by && and || twice the time of ties.
 #[tactic(auto, unfolding(crate::specs::Pairing::pair_before))]
 fn comes_before(p: Node, q: Node, r: Node, s: Node) -> bool
     ensures { result ≡ pair_before p.0 q.0 r.0 s.0 }
 {
-    p.0 < r.0 || (p.0 == r.0 && q.0 < s.0)
+    if p.0 < r.0 {
+        return true;
+    }
+    if p.0 == r.0 {
+        return q.0 < s.0;
+    }
+    false
 }
 
 // The ids of a pair, the smaller first.
@@ -66,11 +72,11 @@ fn is_better(best: Best, x: f64, p: Node, q: Node) -> bool
     if !best.found || x + EPS < best.dist {
         return true;
     }
-    if !is_near(x, best.dist) {
-        return false;
+    if is_near(x, best.dist) {
+        let (low, high) = ordered(p, q);
+        return comes_before(low, high, best.low, best.high);
     }
-    let (low, high) = ordered(p, q);
-    comes_before(low, high, best.low, best.high)
+    false
 }
 
 // The pair of slots a, b at distance x, with ids p and q.
@@ -96,8 +102,7 @@ pub fn offered(a: Slot, b: Slot, x: f64, p: Node, q: Node, best: Best) -> Best
         return best;
     }
     if is_better(best, x, p, q) {
-        paired(a, b, x, p, q)
-    } else {
-        best
+        return paired(a, b, x, p, q);
     }
+    best
 }

@@ -148,7 +148,8 @@ fn deal_equally(members: &[usize], weight: f64, weights: &mut [f64])
     );
 }
 
-// A cut cluster's weight goes to its assets, unless they are refused.
+// A cut cluster's weight goes to its assets, unless they are refused. Its list of weights is kept off the walk's stack.
+#[inline(never)]
 fn inside(
     metric: Metric,
     cov: &[f64],

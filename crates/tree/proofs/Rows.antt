@@ -167,3 +167,24 @@ below_bad n rows i h e = rw (drop-cons rows i 0, le-ltb (get_or rows i 0) (n + i
 pub below_end : (n : ℕ) (rows : List ℕ) (i : ℕ) → length rows ≤ i → below n i (drop i rows) ≡ true
 unfolding below
 below_end n rows i h = rw (drop_of_length-le rows h)
+
+-- ---- `once`, from the largest number down
+
+pub once_good : (l : List ℕ) (m : ℕ) → 0 < m → count (m - 1) l ≡ 1 → once l m ≡ once l (m - 1)
+unfolding once
+once_good l zero h e = absurd (omega arith)
+once_good l (suc m) h e =
+    let s : suc m - 1 ≡ m = omega arith in
+    rw (s, eq-eqb (count m l) 1 (rw s at e))
+
+pub once_bad : (l : List ℕ) (m : ℕ) → 0 < m → (count (m - 1) l ≡ 1 → ⊥) → once l m ≡ false
+unfolding once
+once_bad l zero h e = absurd (omega arith)
+once_bad l (suc m) h e =
+    let s : suc m - 1 ≡ m = omega arith in
+    rw (ne_eqb (count m l) 1 (rw s at e))
+
+pub once_end : (l : List ℕ) (m : ℕ) → m ≤ 0 → once l m ≡ true
+unfolding once
+once_end l zero h = refl
+once_end l (suc m) h = absurd (omega arith)

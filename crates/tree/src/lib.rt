@@ -23,7 +23,13 @@ pub struct Asset(pub usize);
 fn occurs(list: &[usize], x: usize) -> usize
     ensures { result ≡ count x list.now }
 {
-    list.iter().filter(|y| **y == x).count()
+    let mut c = 0;
+    for &y in list {
+        if y == x {
+            c += 1;
+        }
+    }
+    c
 }
 
 // How often each number below 128 stands in the list, in one pass.
@@ -48,11 +54,16 @@ fn each_tallied_once(list: &[usize], m: usize) -> bool
     t[..m].iter().all(|seen| *seen == 1)
 }
 
-// Of more numbers, each is looked for.
+// Of more numbers, each is looked for, the largest first.
 fn each_found_once(list: &[usize], m: usize) -> bool
     ensures { result ≡ once list.now m }
 {
-    (0..m).all(|k| occurs(list, k) == 1)
+    for k in (0..m).rev() {
+        if occurs(list, k) != 1 {
+            return false;
+        }
+    }
+    true
 }
 
 // Each number below m stands in the list once.

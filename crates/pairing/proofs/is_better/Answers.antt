@@ -13,14 +13,14 @@ returns-then-not-best c =
       | then-not-best-via-else-not-best+then-x-best w ↦ simp (w.if-not-best.false, w.if-x-best.true)
     ]
 
-pub returns-then-not-is_near : goal.returns-then-not-is_near
+pub returns-then-is_near : goal.returns-then-is_near
 unfolding better
-returns-then-not-is_near c =
-    let e : near _ _ ≡ false = sym c.is_near.ensures ∙ c.if-not-is_near.true in
-    simp (c.if-not-best.false, c.if-x-best.false, e)
+returns-then-is_near c =
+    let e : near _ _ ≡ true = sym c.is_near.ensures ∙ c.if-is_near.true in
+    simp (c.if-not-best.false, c.if-x-best.false, e, ← c.ordered.ensures.low, ← c.ordered.ensures.high) c.comes_before.ensures
 
 pub returns : goal.returns
 unfolding better
 returns c =
-    let e : near _ _ ≡ true = sym c.is_near.ensures ∙ c.if-not-is_near.false in
-    simp (c.if-not-best.false, c.if-x-best.false, e, ← c.ordered.ensures.low, ← c.ordered.ensures.high) c.comes_before.ensures
+    let e : near _ _ ≡ false = sym c.is_near.ensures ∙ c.if-is_near.false in
+    simp (c.if-not-best.false, c.if-x-best.false, e)

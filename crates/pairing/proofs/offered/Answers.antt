@@ -11,6 +11,6 @@ pub returns-then-is_better : goal.returns-then-is_better
 unfolding offer
 returns-then-is_better c = rw (sym c.is_better.ensures ∙ c.if-is_better.true) c.paired.ensures
 
-pub returns-else-is_better : goal.returns-else-is_better
+pub returns : goal.returns
 unfolding offer
-returns-else-is_better c = rw (sym c.is_better.ensures ∙ c.if-is_better.false)
+returns c = rw (sym c.is_better.ensures ∙ c.if-is_better.false)
