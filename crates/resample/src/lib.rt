@@ -157,18 +157,20 @@ fn scan(prices: &[f64], last: usize, columns: usize, out: &mut [f64]) -> bool
     ensures value { result ≡ zero_met prices.now (last * columns) }
     ensures out_after { result ≡ false → out.new ≡ over (grid last columns (return_cell prices.now columns)) out.old }
 {
-    for r in 0..last {
+    let mut met = false;
+    'scan: for r in 0..last {
         for c in 0..columns {
             let previous = at(prices, columns, r, c);
             if previous == 0.0 {
-                return true;
+                met = true;
+                break 'scan;
             }
             let price = at(prices, columns, r + 1, c);
             let change = price / previous - 1.0;
             put(out, columns, r, c, arithmetic::settled(change));
         }
     }
-    false
+    met
 }
 
 // The refusal that the sizes give, if there is one: every line of the table but the zero price's.

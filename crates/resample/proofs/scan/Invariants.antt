@@ -9,8 +9,8 @@ use Rattle.resample.proofs.scan.Given as goal
 
 abbrev pub invariant-loop-c : goal.invariant-loop-c
 invariant-loop-c l =
-    (zero_met l.prices (l.r * l.columns + l.c) ≡ false) × (l.out ≡ over (part l.r l.c l.columns (return_cell l.prices l.columns)) l.initial.out)
+    (l.met ≡ l.initial.met) × (zero_met l.prices (l.r * l.columns + l.c) ≡ false) × (l.out ≡ over (part l.r l.c l.columns (return_cell l.prices l.columns)) l.initial.out)
 
-abbrev pub invariant-loop-r : goal.invariant-loop-r
-invariant-loop-r l =
-    (zero_met l.prices (l.r * l.columns) ≡ false) × (l.out ≡ over (grid l.r l.columns (return_cell l.prices l.columns)) l.initial.out)
+abbrev pub invariant-scan : goal.invariant-scan
+invariant-scan l =
+    (l.met ≡ false) × (zero_met l.prices (l.r * l.columns) ≡ false) × (l.out ≡ over (grid l.r l.columns (return_cell l.prices l.columns)) l.initial.out)
