@@ -1,5 +1,5 @@
 -- The laws of specs/Clusters.antt in the shape of the needs. Assumes nothing.
-use Prim.Native.Nat.{ℕ, ◌*◌, ◌<◌, ◌≤◌}
+use Prim.Native.Nat.{ℕ, ◌*◌, ◌<◌, ◌≤◌, ◌+◌}
 use mathlib.Core.Path.{◌≡◌, refl, sym, ap, ◌∙◌}
 use mathlib.Core.Bool.{Bool, true, false, not}
 use mathlib.Core.List.{List, ◌∷◌}
@@ -21,7 +21,7 @@ use Rattle.refusal.specs.declared.Refusal.TheVariants.{DimensionMismatch, ShortB
 use Rattle.refusal.proofs.Tables.{none, both_done, first_append}
 use Rattle.lent.specs.Grid.{zeros, over, sum_to, sum_rows, any_to}
 use Rattle.lent.specs.Lent.{answer_of, size}
-use Rattle.lent.proofs.Laws.{length_tab, get_d_over}
+use Rattle.lent.proofs.Laws.{length_tab, get_d_over, cell_in}
 use Rattle.lent.proofs.Sums.{sum_ext, sums_ext, any_no}
 use Rattle.lent.proofs.Sizes.{same_length, laid_done, laid_refused}
 use Rattle.clusters.specs.Clusters.{nth, shares, term, variance_of, expectation, ratio, ratio_of, outside, risk_table, size_table, shares_outcome, shares_answer, shares_laid, variance_outcome, variance_answer, sharpe_outcome, sharpe_answer, risk_of, risk_tells}
@@ -55,6 +55,14 @@ any_listed p l b m = said b m ∙ rw (take_all (length l) l (le_refl _)) at (any
     said false m = sym (list_any_none p l m)
 
 -- ---- assets of a square matrix
+
+pub listed_cell : {cov : List Float} {n : ℕ} {assets : List ℕ} → ListedAssets cov n assets → (i j : ℕ) → i < length assets → j < length assets
+    → nth assets i * n + nth assets j < length cov
+listed_cell {cov} {n} {assets} p i j h k = cell_in cov n n (nth assets i) (nth assets j) p.cells (p.each i h) (p.each j k)
+
+pub listed_in : {cov : List Float} {n : ℕ} {assets : List ℕ} → ListedAssets cov n assets → (expected : List Float) → length expected ≡ n
+    → (k : ℕ) → k < length assets → nth assets k < length expected
+listed_in p expected e k h = omega (arith, p.each k h)
 
 pub listed : (cov : List Float) (n : ℕ) (assets : List ℕ) → length cov ≡ n * n → length assets ≤ 64 → outside n assets ≡ false → ListedAssets cov n assets
 unfolding outside
@@ -134,16 +142,21 @@ module _ (cov : List Float) (rows w : ℕ) (assets : List ℕ) where
       ∙ ap (and_then (first (size_table cov rows w assets))) (line_first _ _ _ ∙ ap (and_then _) (line_first _ _ (risk_table cov w assets)))
 
   -- what the stages that are done know
+  pub sized : first (size_table cov rows w assets) ≡ Ok tt → (length cov ≡ rows * w) × (length assets ≤ 64)
+  unfolding size_table
+  sized e =
+      let a = none _ e in
+      (same_length (length cov) rows w a.1.1.0, ltb-false 64 (length assets) a.1.0)
+
   module _ (s : first (size_table cov rows w assets) ≡ Ok tt) (q : or_else (not (eqb rows w)) DimensionMismatch (Ok tt) ≡ Ok tt) where
-    pub sized : (length cov ≡ w * w) × (length assets ≤ 64)
-    unfolding size_table
-    sized =
-        let a = none _ s in
-        (same_length (length cov) rows w a.1.1.0 ∙ ap (λ (k : ℕ). k * w) (same_number rows w q), ltb-false 64 (length assets) a.1.0)
+    pub squared : (length cov ≡ w * w) × (length assets ≤ 64)
+    squared =
+        let a = sized s in
+        (a.0 ∙ ap (λ (k : ℕ). k * w) (same_number rows w q), a.1)
 
     pub all_listed : first (risk_table cov w assets) ≡ Ok tt → ListedAssets cov w assets
     unfolding risk_table
-    all_listed e = listed cov w assets sized.0 sized.1 (none _ e).0
+    all_listed e = listed cov w assets squared.0 squared.1 (none _ e).0
 
   pub variance_accepted : variance_outcome cov rows w assets ≡ Ok tt → (rows ≡ w) × ListedAssets cov w assets
   variance_accepted e =
@@ -153,6 +166,13 @@ module _ (cov : List Float) (rows w : ℕ) (assets : List ℕ) where
 
   -- ---- of `inverse_variance_weights`
   module _ (room : ℕ) where
+    pub shares_accepted : shares_outcome cov rows w assets room ≡ Ok tt → (rows ≡ w) × ListedAssets cov w assets × (length assets ≤ room)
+    shares_accepted e =
+        let a = both_done _ _ (sym (shares_stages room) ∙ e) in
+        let b = both_done _ _ a.1 in
+        let d = both_done _ _ b.1 in
+        (same_number rows w d.0, all_listed a.0 d.0 d.1, ltb-false room (length assets) (passed (ltb room (length assets)) ShortBuffer b.0))
+
     pub shares_refused : (r : Refusal) → shares_outcome cov rows w assets room ≡ Err r → shares_answer cov rows w assets room ≡ Err r
     unfolding shares_answer answer_of
     shares_refused r d = rw d
@@ -180,6 +200,13 @@ module _ (cov : List Float) (rows w : ℕ) (assets : List ℕ) where
 
   -- ---- of `cluster_sharpe`
   module _ (expected : List Float) where
+    pub sharpe_accepted : sharpe_outcome expected cov rows w assets ≡ Ok tt → (rows ≡ w) × ListedAssets cov w assets × (length expected ≡ w)
+    sharpe_accepted e =
+        let a = both_done _ _ (sym (sharpe_stages expected) ∙ e) in
+        let b = both_done _ _ a.1 in
+        let d = both_done _ _ b.1 in
+        (same_number rows w b.0, all_listed a.0 b.0 d.1, same_number (length expected) w d.0)
+
     pub sharpe_refused : (r : Refusal) → sharpe_outcome expected cov rows w assets ≡ Err r → sharpe_answer expected cov rows w assets ≡ Err r
     unfolding sharpe_answer
     sharpe_refused r d = rw d

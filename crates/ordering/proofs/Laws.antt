@@ -1,7 +1,7 @@
 -- The tests that the code makes, and the steps of its loops. Assumes nothing.
-use Rattle.std.proofs.Common.{◌≡◌, ℕ, suc, ◌+◌, ◌<◌, ◌≤◌, Bool, true, false, not, ◌&&◌, ◌||◌, T, List, [], ◌∷◌, ◌++◌, length, get_or, take, drop, set, sym, refl, ap, ◌∙◌, subst, add-one, arith, length-append, drop_of_length-le, take_all, drop-cons, take-suc-set, take_at, drop-set-lt, drop_at}
+use Rattle.std.proofs.Common.{◌≡◌, ℕ, suc, ◌+◌, ◌<◌, ◌≤◌, Bool, true, false, not, ◌&&◌, ◌||◌, T, List, [], ◌∷◌, ◌++◌, length, get_or, take, drop, set, sym, refl, ap, ◌∙◌, subst, add-one, arith, length-append, drop_of_length-le, take_all, drop-cons, take-suc-set, take_at, drop-set-lt, drop_at, length-set}
 use mathlib.Core.Bool.{false≢true}
-use lib.Seq.{append_snoc, set_at}
+use lib.Seq.{append_snoc, set_at, set-get_or}
 use lib.Ieee.{Float, nan, inf, fin, lt, eq, is_nan}
 use Rattle.std.specs.Float.{is_sign_negative}
 use Rattle.ordering.specs.Order.{has_minus, before, insert, insert_all, sorted, earlier, later}
@@ -74,12 +74,12 @@ pass_step l x k h =
 -- the two ways of a turn: x is put down at k and the entry there taken up, or not
 module _ (l xs : List Float) (x h : Float) (k : ℕ) (lt-k : k < length l) where
   pub pass_swap : true ≡ before x (get_or l k nan) → xs ≡ set l k x → h ≡ get_or l k nan
-      → take (k + 1) xs ++ insert h (drop (k + 1) xs) ≡ take k l ++ insert x (drop k l)
-  pass_swap b e g = rw (e, g) (rw (← b) at (pass_step l x k lt-k))
+      → (length xs ≡ length l) × (take (k + 1) xs ++ insert h (drop (k + 1) xs) ≡ take k l ++ insert x (drop k l))
+  pass_swap b e g = (ap length e ∙ simp length-set, rw (e, g) (rw (← b) at (pass_step l x k lt-k)))
 
-  pub pass_keep : false ≡ before x (get_or l k nan) → xs ≡ set l k (get_or l k nan) → h ≡ x
-      → take (k + 1) xs ++ insert h (drop (k + 1) xs) ≡ take k l ++ insert x (drop k l)
-  pass_keep b e g = rw (e, g) (rw (← b) at (pass_step l x k lt-k))
+  pub pass_keep : false ≡ before x (get_or l k nan) → xs ≡ l → h ≡ x
+      → (length xs ≡ length l) × (take (k + 1) xs ++ insert h (drop (k + 1) xs) ≡ take k l ++ insert x (drop k l))
+  pass_keep b e g = (ap length e, rw (e, g) (rw (← b, set-get_or) at (pass_step l x k lt-k)))
 
 pub pass_end : (l : List Float) (x : Float) (k : ℕ) → length l ≤ k → take k l ++ insert x (drop k l) ≡ l ++ (x ∷ [])
 unfolding insert

@@ -121,6 +121,9 @@ module _ (l : List Float) (q : Float) where
     pub entry_given : (x : Float) → o ≡ Ok x → x ≡ quantile q l
     entry_given x g = let k = known in cc
 
+    pub entry_not : (r : Refusal) → o ≡ Err r → ⊥
+    entry_not r g = let k = known in let z : ◌≡◌ {A = ℕ} 0 1 = cc in omega arith
+
 -- the two clauses of a call that puts its list in order, from one proof of both: what it answers, and what the list is
 pub value_and_list : {A B : Type 0} → A × B → record { value : A; xs_after : B }
 value_and_list p = record { value = p.0; xs_after = p.1 }

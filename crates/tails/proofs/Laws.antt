@@ -1,19 +1,25 @@
 -- The steps of the loops, in the shape of the needs. Assumes nothing.
-use Prim.Native.Nat.{ℕ, ◌+◌, ◌≤◌}
+use Prim.Native.Nat.{ℕ, ◌+◌, ◌≤◌, ◌*◌, ◌<◌}
 use mathlib.Core.Path.{◌≡◌, refl, sym, ap, ◌∙◌}
 use mathlib.Core.Bool.{Bool, true, false, cond}
 use mathlib.Core.List.{List}
 use native.Mathlib.Nat.{le_antisymm}
 use native.Mathlib.Numerals.{add-one}
 use native.Mathlib.Omega.{arith}
-use lib.ListN.{length, set}
+use lib.ListN.{length, set, get_or}
 use lib.Ieee.{Float, binary64, add, sub, mul, neg, le}
 use Rattle.lent.specs.Grid.{tab, over}
-use Rattle.lent.proofs.Laws.{length_tab, over_all_lem}
+use Rattle.lent.proofs.Laws.{length_tab, over_all_lem, cell_in}
 use Rattle.lent.proofs.Fill.{tab_step}
 use Rattle.ordering.specs.Nearest.{quantile}
 use Rattle.arithmetic.specs.Constants.{pz, unit}
 use Rattle.tails.specs.Tail.{tail_sum, tail_count, mean, shortfall, wealth, higher, peak, fall, drawdown, conditional_drawdown}
+use Rattle.tails.specs.Inner.{HeldRows}
+
+-- a cell of an asset listed
+pub held_cell : {returns : List Float} {rows n : ℕ} {assets : List ℕ} {w : List Float} → HeldRows returns rows n assets w → (r k : ℕ) → r < rows → k < length assets
+    → r * n + get_or assets k 0 < length returns
+held_cell {returns} {rows} {n} {assets} p r k hr hk = cell_in returns rows n r (get_or assets k 0) p.cells hr (p.each k hk)
 
 -- ---- a list that is filled from the front, and full
 

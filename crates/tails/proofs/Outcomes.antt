@@ -134,14 +134,14 @@ module _ (m : MeasureCall) where
         let p = both_done _ _ (sym stages ∙ sym e ∙ d) in
         ready_of p.0 (both_done _ _ p.1).0 w (f d) k
 
-    shortfall_answered : (r : Risk) → r ≡ risk_of said (shortfall m.return_rows (row_return m.returns m.covariance_columns m.assets (take (length m.assets) w)) m.confidence)
+    pub shortfall_answered : (r : Risk) → r ≡ risk_of said (shortfall m.return_rows (row_return m.returns m.covariance_columns m.assets (take (length m.assets) w)) m.confidence)
         → r ≡ shortfall_answer m
     unfolding shortfall_answer shortfall_of
     shortfall_answered r g =
         g ∙ same_risk said _ _ (λ d. ap (λ (t : List Float). shortfall m.return_rows (row_return m.returns m.covariance_columns m.assets t) m.confidence) (f d))
         ∙ ap (λ (o : Outcome). risk_of o (shortfall m.return_rows (row_return m.returns m.covariance_columns m.assets (shares m.covariance m.covariance_columns m.assets)) m.confidence)) e
 
-    drawdown_answered : (r : Risk) → r ≡ risk_of said (conditional_drawdown m.return_rows (row_return m.returns m.covariance_columns m.assets (take (length m.assets) w)) m.confidence)
+    pub drawdown_answered : (r : Risk) → r ≡ risk_of said (conditional_drawdown m.return_rows (row_return m.returns m.covariance_columns m.assets (take (length m.assets) w)) m.confidence)
         → r ≡ drawdown_answer m
     unfolding drawdown_answer drawdown_of
     drawdown_answered r g =

@@ -2,7 +2,7 @@
 use mathlib.Core.Path.{sym, ◌∙◌}
 use Rattle.std.proofs.lemmas.Result.{err_from_is_err_and}
 use Rattle.refusal.proofs.Tables.{then_done, then_refused}
-use Rattle.clusters.proofs.Laws.{variance_stages, variance_refused, sized, all_listed}
+use Rattle.clusters.proofs.Laws.{variance_stages, variance_refused, squared, all_listed}
 use Rattle.clusters.proofs.cluster_variance.Goals as goal
 
 pub returns-in_err-judge_sizes : goal.returns-in_err-judge_sizes
@@ -30,7 +30,7 @@ pub judge_risk-requires : goal.judge_risk-requires
 judge_risk-requires c =
     let s = sym c.judge_sizes.ensures ∙ c.in_ok-judge_sizes.was in
     let q = sym c.refuse.ensures ∙ c.in_ok-refuse.was in
-    let z = sized _ _ _ _ s q in
+    let z = squared _ _ _ _ s q in
     record {
       cov_len = z.0;
       assets_len_bound = z.1;

@@ -4,7 +4,7 @@ use borrow.Author.Tests.{ltb-false}
 use Rattle.refusal.specs.declared.Refusal.TheVariants.{ShortBuffer}
 use Rattle.std.proofs.lemmas.Result.{err_from_is_err_and}
 use Rattle.refusal.proofs.Tables.{then_done, then_refused}
-use Rattle.clusters.proofs.Laws.{shares_stages, shares_refused, sized, all_listed, passed}
+use Rattle.clusters.proofs.Laws.{shares_stages, shares_refused, squared, all_listed, passed}
 use Rattle.clusters.proofs.inverse_variance_weights.Goals as goal
 
 pub returns-in_err-judge_sizes-clause-value : goal.returns-in_err-judge_sizes-clause-value
@@ -41,7 +41,7 @@ pub judge_risk-requires : goal.judge_risk-requires
 judge_risk-requires c =
     let s = sym c.judge_sizes.ensures ∙ c.in_ok-judge_sizes.was in
     let q = sym c.refuse-2.ensures ∙ c.in_ok-refuse-2.was in
-    let z = sized _ _ _ _ s q in
+    let z = squared _ _ _ _ s q in
     record {
       cov_len = z.0;
       assets_len_bound = z.1;
